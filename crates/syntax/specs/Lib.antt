@@ -1,0 +1,5 @@
+pub mod Fault
+pub mod Line
+pub mod Format
+pub mod Cut
+pub mod Fields

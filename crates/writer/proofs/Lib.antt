@@ -1,0 +1,5 @@
+pub mod Laying
+pub mod Fields
+pub mod Parts
+pub mod Bound
+pub mod Outcome
