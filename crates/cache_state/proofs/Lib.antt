@@ -1,0 +1,4 @@
+pub mod Fetches
+pub mod Tracks
+pub mod Exactly
+pub mod InRange

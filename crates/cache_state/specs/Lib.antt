@@ -1,0 +1,3 @@
+pub mod Cache
+pub mod Fetching
+pub mod Meaning

@@ -1,0 +1,15 @@
+pub mod Grounds
+pub mod Lists
+pub mod Loops
+pub mod Stays
+pub mod Residence
+pub mod States
+pub mod Fits
+pub mod Kept
+pub mod Credit
+pub mod Charged
+pub mod Cover
+pub mod Levels
+pub mod Sizes
+pub mod Worked
+pub mod Instance

@@ -1,0 +1,4 @@
+pub mod Letters
+pub mod Category
+pub mod Costs
+pub mod Meaning

@@ -1,0 +1,5 @@
+pub mod Kind
+pub mod Laws
+pub mod Settling
+pub mod Meaning
+pub mod Space

@@ -1,0 +1,3 @@
+pub mod SlotWalks
+pub mod SlotsExact
+pub mod PassedExact

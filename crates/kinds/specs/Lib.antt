@@ -1,0 +1,3 @@
+pub mod SlotsExact
+pub mod PassedExact
+pub mod Worked

@@ -1,0 +1,17 @@
+pub mod Shape
+pub mod Nest
+pub mod Sums
+pub mod Found
+pub mod Entries
+pub mod Above
+pub mod Reached
+pub mod Pushes
+pub mod Tables
+pub mod Local
+pub mod Theorem
+pub mod Counts
+pub mod Lengths
+pub mod Sim
+pub mod Sizes
+pub mod Listing
+pub mod NineSound

@@ -1,0 +1,5 @@
+pub mod Charge
+pub mod Search
+pub mod Nine
+pub mod Claim
+pub mod Sizes

@@ -1,0 +1,1 @@
+// Walks through a task, and the stays and rounds of its loops on them.
