@@ -12,13 +12,13 @@ use Rattle.std.proofs.shelf.Lists.{length-push, getD-append-left, getD-push}
 use Rattle.std.proofs.shelf.Tests.{cases-bool, cases-lt, both-ways, eqb-true, eq-eqb, and-parts, and-from, or-cases, or-left, or-right, or-parts, or-from, and-left, and-right, not-true, not-from-false, false≢true}
 use Rattle.records.specs.Contents.{Contents}
 use Rattle.task.specs.Graph.{loopAt, within, Within}
-use Rattle.walks.specs.Walk.{allLoops}
+use Rattle.walks.specs.Walk.{allLoops, Among}
 use Rattle.facts.specs.Settling.{blocksOf}
 use Rattle.categories.specs.declared.category.Category.{Category}
 use Rattle.categories.specs.declared.category.Category.the-variants.{AlwaysHit, FirstMiss, FirstHit, AlwaysMiss}
 use Rattle.categories.specs.Category.{fetchesOf, lineOf, Marks}
 use Rattle.categories.specs.Costs.{isFirstMiss, passing, oneOfThese, added, distinct, firstMissBefore, chargedFetch, chargedLines, chargedAt}
-use Rattle.categories.specs.Meaning.{Among, Charged, ChargedOnce}
+use Rattle.categories.specs.Meaning.{Charged, ChargedOnce}
 use Rattle.categories.proofs.Lists.{among-left, among-right, among-append, among-map, map-among, among-counting, counting-among, among-blocks, blocks-among, among-passing, passing-among}
 use Rattle.categories.proofs.Loops.{within-true, true-within}
 

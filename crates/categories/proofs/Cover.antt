@@ -15,7 +15,7 @@ use Rattle.records.specs.declared.parts.Geometry.{Geometry}
 use Rattle.records.specs.declared.parts.Loop.{Loop}
 use Rattle.records.specs.Contents.{Contents}
 use Rattle.task.specs.Graph.{blockAt, loopAt, Within}
-use Rattle.walks.specs.Walk.{Walk, rounds, begins, allLoops, innermost}
+use Rattle.walks.specs.Walk.{Walk, rounds, begins, allLoops, innermost, Among}
 use Rattle.facts.specs.Kind.{Kind}
 use Rattle.cache_state.specs.Cache.{Cache, slotOf, fetchLine, fetchCache, fetchAll, walkCache}
 use Rattle.tally.specs.Kinds.{Pair}
@@ -26,7 +26,7 @@ use Rattle.categories.specs.declared.category.Category.{Category}
 use Rattle.categories.specs.declared.category.Category.the-variants.{AlwaysHit, FirstMiss, FirstHit, AlwaysMiss}
 use Rattle.categories.specs.Category.{fetchesOf, lineOf, marksOf, Marks}
 use Rattle.categories.specs.Costs.{paysFirst, paysLater, paying, chargedAt, cycleCosts, pairCosts, cycleTally, pairTally}
-use Rattle.categories.specs.Meaning.{Among, Fitting, Covers, CoveredAlways}
+use Rattle.categories.specs.Meaning.{Fitting, Covers, CoveredAlways}
 use Rattle.categories.proofs.Grounds.{Grounds}
 use Rattle.categories.proofs.Lists.{counting-among}
 use Rattle.categories.proofs.Loops.{walk-below, innermost-around, rounds-some}

@@ -13,7 +13,7 @@ use Rattle.records.specs.declared.parts.Loop.{Loop}
 use Rattle.records.specs.Contents.{Contents}
 use Rattle.records.specs.Layout.{InFormat}
 use Rattle.task.specs.Graph.{loopAt, edgeAt, within, Within, Leads}
-use Rattle.walks.specs.Walk.{Walk, rounds, allLoops}
+use Rattle.walks.specs.Walk.{Walk, rounds, allLoops, Among}
 use Rattle.facts.specs.Kind.{Kind}
 use Rattle.facts.specs.Meaning.{walkState, Exact}
 use Rattle.facts.specs.Settling.{starts, blocksOf}
@@ -23,7 +23,7 @@ use Rattle.run.specs.Run.{linesOf}
 use Rattle.categories.specs.declared.category.Category.{Category}
 use Rattle.categories.specs.declared.category.Category.the-variants.{AlwaysHit, FirstMiss, FirstHit, AlwaysMiss}
 use Rattle.categories.specs.Category.{fetchesOf, lineOf, allPass, apart, alone, leadsBack, gated, passedBy, firstFitting, sureFetch, sureAlways, sureFirst, categoryOf}
-use Rattle.categories.specs.Meaning.{Among, PassedExactly, Passing, order, First, Fitting, Means}
+use Rattle.categories.specs.Meaning.{PassedExactly, Passing, order, First, Fitting, Means}
 use Rattle.categories.proofs.Grounds.{Grounds}
 use Rattle.categories.proofs.Lists.{all-at, all-from, among-blocks, blocks-among, among-lines, lines-among, among-starts, starts-among}
 use Rattle.categories.proofs.Loops.{within-true, true-within, within-below, walk-below}

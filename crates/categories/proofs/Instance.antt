@@ -14,7 +14,7 @@ use Rattle.records.specs.Contents.{Contents}
 use Rattle.task.specs.Graph.{blockAt, loopAt, Within, Leads}
 use Rattle.task.specs.Rules.{HeadsAround}
 use Rattle.task.specs.Laws.{Laws, Climbs, here, on}
-use Rattle.walks.specs.Walk.{Walk, allLoops}
+use Rattle.walks.specs.Walk.{Walk, allLoops, Among}
 use Rattle.facts.specs.Kind.{Situation, Kind}
 use Rattle.facts.specs.Laws.{Alike, Lawful, Distributes}
 use Rattle.facts.specs.Settling.{stateAt, taskStates, firstStates}
@@ -22,7 +22,7 @@ use Rattle.facts.specs.Meaning.{walkState, Standing, StandingFirst, Least}
 use Rattle.cache_state.specs.Cache.{Resident, fetchLines, fetchCache, fetchAll}
 use Rattle.cache_state.specs.Fetching.{Fetching}
 use Rattle.categories.specs.Category.{marksOf}
-use Rattle.categories.specs.Meaning.{Among, PassedExactly, Settled, KeptAlways, CoveredAlways}
+use Rattle.categories.specs.Meaning.{PassedExactly, Settled, KeptAlways, CoveredAlways}
 use Rattle.categories.proofs.Grounds.{Grounds}
 use Rattle.categories.proofs.Kept.{kept-always}
 use Rattle.categories.proofs.Cover.{covered-always}

@@ -12,14 +12,14 @@ use Rattle.records.specs.Contents.{Contents}
 use Rattle.records.specs.Layout.{InFormat, oneOf}
 use Rattle.records.proofs.Ranges.{ranges}
 use Rattle.task.specs.Graph.{loopAt, Within}
-use Rattle.walks.specs.Walk.{Walk, allLoops}
+use Rattle.walks.specs.Walk.{Walk, allLoops, Among}
 use Rattle.facts.specs.Kind.{Kind}
 use Rattle.cache_state.specs.Cache.{Cache, Resident, fetchCache, fetchAll, walkCache}
 use Rattle.run.specs.Run.{linesOf}
 use Rattle.categories.specs.declared.category.Category.{Category}
 use Rattle.categories.specs.declared.category.Category.the-variants.{AlwaysHit, FirstMiss, FirstHit, AlwaysMiss}
 use Rattle.categories.specs.Category.{fetchesOf, lineOf, marksOf}
-use Rattle.categories.specs.Meaning.{Among, Again, Fitting, Keeps, Hits, Kept, KeptAlways}
+use Rattle.categories.specs.Meaning.{Again, Fitting, Keeps, Hits, Kept, KeptAlways}
 use Rattle.categories.proofs.Grounds.{Grounds}
 use Rattle.categories.proofs.Lists.{among-lines}
 use Rattle.categories.proofs.Stays.{first-in-first-round}

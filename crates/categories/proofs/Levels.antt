@@ -12,9 +12,8 @@ use Rattle.std.proofs.shelf.Tests.{cases-bool, cases-lt}
 use Rattle.records.specs.declared.parts.Loop.{Loop}
 use Rattle.records.specs.Contents.{Contents}
 use Rattle.task.specs.Graph.{loopAt, within, Within, around, levels}
-use Rattle.walks.specs.Walk.{allLoops, taskLoop, innermostOf, innermost}
+use Rattle.walks.specs.Walk.{allLoops, taskLoop, innermostOf, innermost, Among}
 use Rattle.categories.specs.Category.{having, levelsOf}
-use Rattle.categories.specs.Meaning.{Among}
 use Rattle.categories.proofs.Loops.{within-true, true-within, false-within, innermost-yes, innermost-no}
 
 module _ (ls : List Loop) (n b : ℕ) where

@@ -12,12 +12,12 @@ use Rattle.records.specs.declared.parts.Loop.{Loop}
 use Rattle.records.specs.declared.parts.Edge.{Edge}
 use Rattle.records.specs.Contents.{Contents}
 use Rattle.task.specs.Graph.{blockAt, edgeAt, Within}
+use Rattle.walks.specs.Walk.{Among}
 use Rattle.facts.specs.Settling.{starts, blocksOf}
 use Rattle.cache_state.specs.Cache.{fetchLine}
 use Rattle.run.specs.Run.{linesOf}
 use Rattle.categories.specs.Category.{fetchesOf, lineOf, allPass}
 use Rattle.categories.specs.Costs.{passing}
-use Rattle.categories.specs.Meaning.{Among}
 
 pub all-at : (test : ℕ → Bool) (xs : List ℕ) (x : ℕ) → allPass test xs ≡ true → Among x xs → test x ≡ true
 all-at test [] x e m = absurd m

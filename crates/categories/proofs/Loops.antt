@@ -16,8 +16,8 @@ use Rattle.records.specs.Layout.{InFormat}
 use Rattle.records.proofs.Ranges.{EdgeRange, LoopRange, ranges}
 use Rattle.task.specs.Graph.{loopAt, within, Within, Leads}
 use Rattle.task.specs.Laws.{Laws, Climbs, here, on}
-use Rattle.walks.specs.Walk.{Walk, rounds, allLoops, taskLoop, innermostOf, innermost}
-use Rattle.categories.specs.Meaning.{Among, Again}
+use Rattle.walks.specs.Walk.{Walk, rounds, allLoops, taskLoop, innermostOf, innermost, Among}
+use Rattle.categories.specs.Meaning.{Again}
 
 -- the test of a loop's blocks
 pub within-true : (l : Loop) (b : ℕ) → within l b ≡ true → Within l b

@@ -9,9 +9,9 @@ use lib.Seq.{getD-set-same, getD-set-other}
 use lib.Dec.{eqb}
 use Rattle.std.proofs.shelf.Tests.{cases-eq, eq-eqb, ne-eqb, cond-true, cond-false}
 use Rattle.records.specs.declared.parts.Geometry.{Geometry}
+use Rattle.walks.specs.Walk.{Among}
 use Rattle.cache_state.specs.Cache.{Cache, empty, Resident, slotOf, fetchCache, fetchAll}
 use Rattle.run.specs.Run.{missed}
-use Rattle.categories.specs.Meaning.{Among}
 
 pub take-among : (j : ℕ) (ts : List ℕ) (u : ℕ) → Among u (take j ts) → Among u ts
 take-among zero ts u m = absurd m

@@ -11,8 +11,8 @@ use Rattle.records.specs.Contents.{Contents}
 use Rattle.records.specs.Layout.{InFormat}
 use Rattle.task.specs.Graph.{loopAt, Within, Leads}
 use Rattle.task.specs.Laws.{Laws}
-use Rattle.walks.specs.Walk.{Walk, rounds, allLoops}
-use Rattle.categories.specs.Meaning.{Among, Again}
+use Rattle.walks.specs.Walk.{Walk, rounds, allLoops, Among}
+use Rattle.categories.specs.Meaning.{Again}
 use Rattle.categories.proofs.Loops.{cases-within, rounds-head, rounds-on, rounds-out, within-below, start-header, climb, stays, stay-header}
 
 module _ (c : Contents) (format : InFormat c) (laws : Laws c) (i : ℕ) (known : i < length (allLoops c)) where

@@ -11,7 +11,7 @@ use Rattle.records.specs.Contents.{Contents}
 use Rattle.records.specs.Layout.{InFormat}
 use Rattle.task.specs.Graph.{blockAt, loopAt, Within, Leads}
 use Rattle.task.specs.Laws.{Laws}
-use Rattle.walks.specs.Walk.{Walk, rounds, allLoops}
+use Rattle.walks.specs.Walk.{Walk, rounds, allLoops, Among}
 use Rattle.facts.specs.Kind.{Kind}
 use Rattle.facts.specs.Meaning.{walkState, Exact}
 use Rattle.cache_state.specs.Cache.{Cache, Resident, slotOf, fetchCache, fetchAll, walkCache}
@@ -21,11 +21,6 @@ use Rattle.categories.specs.declared.category.Category.{Category}
 use Rattle.categories.specs.declared.category.Category.the-variants.{AlwaysHit, FirstMiss, FirstHit, AlwaysMiss}
 use Rattle.categories.specs.Category.{fetchesOf, lineOf, passedBy, sureFetch, categoryOf, Marks, marksOf}
 use Rattle.categories.specs.Costs.{chargedAt, cycleCosts, pairCosts, cycleTally, pairTally}
-
--- the number is one of these
-abbrev pub Among : ℕ → List ℕ → Type 0
-Among x [] = ⊥
-Among x (y ∷ ys) = (x ≡ y) ⊎ Among x ys
 
 -- `passed x b` exactly where every walk to block x has left block b behind it
 abbrev pub PassedExactly : (ℕ → ℕ → Bool) → Contents → Type 0

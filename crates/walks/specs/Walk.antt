@@ -2,6 +2,7 @@
 use mathlib.Core.Path.{_≡_}
 use mathlib.Core.List.{List, [], _∷_}
 use mathlib.Core.Bool.{Bool, true, false, cond, not, _&&_}
+use mathlib.Core.Logic.{_⊎_}
 use Prim.Native.Nat.{ℕ, zero, suc, _-_, _<_, _≤_}
 use lib.Dec.{eqb}
 use lib.ListN.{length}
@@ -31,6 +32,11 @@ innermost ls b = innermostOf ls (length ls) b
 abbrev pub Walk : List Edge → ℕ → List ℕ → ℕ → Type 0
 Walk es h [] b = b ≡ h
 Walk es h (p ∷ w) b = Walk es h w p × Leads es p b
+
+-- the number is one of these
+abbrev pub Among : ℕ → List ℕ → Type 0
+Among x [] = ⊥
+Among x (y ∷ ys) = (x ≡ y) ⊎ Among x ys
 
 -- The rounds of the current stay in a loop, after these blocks, the latest first; 0 outside the loop.
 abbrev pub rounds : Loop → List ℕ → ℕ
