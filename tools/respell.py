@@ -33,8 +33,9 @@ def respell_line(line, mark, names):
     def in_prose(m):
         return m.group() if "-" in m.group() else names.get(m.group(), m.group())
 
-    code = NAME.sub(in_prose if '"' in code else in_code, code)
-    return code + NAME.sub(in_prose, comment)
+    parts = code.split('"')
+    parts[0::2] = [NAME.sub(in_code, x) for x in parts[0::2]]
+    return '"'.join(parts) + NAME.sub(in_prose, comment)
 
 
 def main():

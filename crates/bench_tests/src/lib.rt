@@ -1,4 +1,6 @@
 // The bench compared with a second one, written from the rules alone, and its refusals on both sides of their edges.
+#![tactic(auto)]
+
 #[cfg(test)]
 mod model;
 #[cfg(test)]

@@ -1,4 +1,6 @@
 // Writing text into a lent buffer, which may be too short for it.
+#![tactic(auto)]
+
 ghost use Rattle.std.specs.Prelude.{◌≡◌, ◌+◌, ◌≤◌, length, decimal};
 ghost use Rattle.buffer.specs.Put.{Put, Puts};
 

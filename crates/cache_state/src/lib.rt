@@ -1,4 +1,6 @@
 // Kinds of cache state: facts about the cache, which a fetch changes.
+#![tactic(auto)]
+
 ghost use Rattle.std.specs.Prelude.{◌≡◌, ℕ, ◌<◌, true, take};
 ghost use Rattle.records.specs.declared.parts.Geometry.{Geometry as Shape};
 ghost use Rattle.facts.specs.Laws.{Distributes};

@@ -1,4 +1,6 @@
 // The category of each fetch at each loop around its block, and what walks are charged by them.
+#![tactic(auto)]
+
 ghost use Rattle.std.specs.Prelude.{ℕ};
 ghost use Rattle.records.specs.Contents.{Contents};
 ghost use Rattle.categories.specs.Category.{Marks};

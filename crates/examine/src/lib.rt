@@ -1,4 +1,6 @@
 // The examination of a task with a kind of cache state.
+#![tactic(auto)]
+
 ghost use Rattle.std.specs.Prelude.{◌≡◌, ℕ, ◌*◌, ◌≤◌, length, IfOk, vec_len};
 ghost use Rattle.task.specs.Graph.{total_fetches};
 ghost use Rattle.task.specs.View.{task_contents};

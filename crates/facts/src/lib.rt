@@ -1,4 +1,6 @@
 // Kinds of facts: what holds of a cache, or of the blocks passed, on every walk.
+#![tactic(auto)]
+
 ghost use Rattle.std.specs.Prelude.{◌≡◌, Bool, true};
 ghost use Rattle.facts.specs.Kind.{Kind};
 ghost use Rattle.facts.specs.Laws.{Lawful, Distributing};

@@ -1,4 +1,6 @@
 // The figures of a task, from the categories of its fetches.
+#![tactic(auto)]
+
 ghost use Rattle.std.specs.Prelude.{IfOk, Decides};
 ghost use Rattle.task.specs.View.{task_contents};
 ghost use Rattle.figure.specs.Figure.{RowForEach, FiguresBy, FiguresOf};

@@ -1,4 +1,6 @@
 // lanebench: a bench at the terminal. Each line of standard input is a call, and each answer is printed.
+#![tactic(auto)]
+
 mod answers;
 mod commands;
 

@@ -1,4 +1,6 @@
 // lanetime: reads a task record from standard input, and writes it back or says why it is refused.
+#![tactic(auto)]
+
 use anyhow::anyhow;
 use load::load;
 use std::env;

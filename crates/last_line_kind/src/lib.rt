@@ -1,4 +1,6 @@
 // The last-line kind of cache state: the latest fetched program line.
+#![tactic(auto)]
+
 ghost use Rattle.last_line_kind.specs.LastLine.{last_kind, last_taken, last_fetched};
 ghost use Rattle.last_line_kind.specs.Laws.{last_lawful, pass_through, last_everywhere, last_fetching, fetch_through};
 ghost use Rattle.std.proofs.lemmas.Bool.{ltb-true};

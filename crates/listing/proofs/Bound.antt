@@ -75,10 +75,10 @@ fits-length figure window = elim (cases_Bool (leb figure window)) [
   | inr e ↦ omega (arith, ap length (no_fits e))
 ]
   where
-    yes-fits : leb figure window ≡ true → fits_text figure window ≡ codes "yes"
+    yes_fits : leb figure window ≡ true → fits_text figure window ≡ codes "yes"
     yes_fits e = rw (fits_text, e)
 
-    no-fits : leb figure window ≡ false → fits_text figure window ≡ codes "no"
+    no_fits : leb figure window ≡ false → fits_text figure window ≡ codes "no"
     no_fits e = rw (fits_text, e)
 
 head-length : (c : Contents) (f : Findings) → length (head_text c f) ≤ 400

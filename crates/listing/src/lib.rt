@@ -1,4 +1,6 @@
 // What an examination found, as text laid into a lent buffer. Nothing is allocated.
+#![tactic(auto)]
+
 ghost use Rattle.task.specs.View.{task_contents};
 ghost use Rattle.examine.specs.Findings.{shown};
 ghost use Rattle.writer.specs.Lays.{Lays};

@@ -1,4 +1,6 @@
 // From bytes to a task, or the exact refusal.
+#![tactic(auto)]
+
 ghost use Rattle.load.specs.Loading.{Loading, OneReading, ReadsBack};
 
 use crate::refusal::*;

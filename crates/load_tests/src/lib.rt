@@ -1,4 +1,6 @@
 // Examples of loading and writing a record that no contract spells out byte by byte.
+#![tactic(auto)]
+
 #[cfg(test)]
 mod tests {
     use load::load;

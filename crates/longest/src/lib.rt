@@ -1,4 +1,6 @@
 // The greatest charge of a walk within the limits, and a search that finds it.
+#![tactic(auto)]
+
 ghost use Rattle.std.specs.Prelude.{if◌then◌else◌, nat_eq};
 ghost use Rattle.records.specs.Layout.{InFormat};
 ghost use Rattle.task.specs.Rules.{Sound};

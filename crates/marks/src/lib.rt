@@ -1,4 +1,6 @@
 // The categories of a task, fetch by fetch and level by level.
+#![tactic(auto)]
+
 ghost use Rattle.std.specs.Prelude.{◌≡◌, ◌+◌, ◌<◌, ◌≤◌, true, [], length, Some, Decides, slice_index_or};
 ghost use Rattle.task.specs.Graph.{total_fetches};
 ghost use Rattle.task.specs.View.{task_contents};

@@ -1,4 +1,6 @@
 // From the bytes of a text to a task record, or to what is wrong with them.
+#![tactic(auto)]
+
 ghost use Rattle.reader.specs.Parts.{ReadsHeader};
 ghost use Rattle.reader.specs.Reading.{Reading};
 

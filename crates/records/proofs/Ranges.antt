@@ -120,7 +120,7 @@ record Edges (n : ℕ) (es : List Edge) : Type 0 where
 
 edges_of : (n : ℕ) (es : List Edge) → follows (edges_format n) (counted edge_row es []) ≡ true → Edges n es
 edges_of n es h =
-    let p = number-line (codes "edges=") (between 0 512) (λ fs. lines (first fs) (edge_form n) end) (length es) (map edge_row es ++ []) h in
+    let p = number_line (codes "edges=") (between 0 512) (λ fs. lines (first fs) (edge_form n) end) (length es) (map edge_row es ++ []) h in
     let q = listed_lines (edge_form n) edge_row es end [] p.1 in
     record {
       few = (between_parts 0 512 (length es) p.0).1;
@@ -135,7 +135,7 @@ record Loops (n : ℕ) (ls : List Loop) (es : List Edge) : Type 0 where
 
 loops_of : (n : ℕ) (ls : List Loop) (es : List Edge) → follows (loops_format n) (counted loop_row ls (counted edge_row es [])) ≡ true → Loops n ls es
 loops_of n ls es h =
-    let p = number-line (codes "loops=") (between 0 15) (λ fs. lines (first fs) (loop_form n) (edges_format n)) (length ls) (map loop_row ls ++ counted edge_row es []) h in
+    let p = number_line (codes "loops=") (between 0 15) (λ fs. lines (first fs) (loop_form n) (edges_format n)) (length ls) (map loop_row ls ++ counted edge_row es []) h in
     let q = listed_lines (loop_form n) loop_row ls (edges_format n) (counted edge_row es []) p.1 in
     record {
       few = (between_parts 0 15 (length ls) p.0).1;
@@ -153,11 +153,11 @@ header_of h rest more e =
     let w : List (List ℕ) = (h.window ∷ []) ∷ more in
     let m : List (List ℕ) = (h.penalty ∷ []) ∷ w in
     let n : List (List ℕ) = (h.hit ∷ []) ∷ m in
-    let p = number-line (codes "line=") (one_of (4 ∷ 8 ∷ 16 ∷ 32 ∷ 64 ∷ [])) after_line h.geometry.line ((h.geometry.slots ∷ []) ∷ n) e in
-    let q = number-line (codes "slots=") (one_of (1 ∷ 2 ∷ 4 ∷ 8 ∷ 16 ∷ 32 ∷ 64 ∷ [])) after-slots h.geometry.slots n p.1 in
-    let r = number-line (codes "hit=") (between 1 255) after-hit h.hit m q.1 in
-    let s = number-line (codes "penalty=") (between 0 4095) after-penalty h.penalty w r.1 in
-    let t = number-line (codes "window=") (between 1 99999999) (λ _. rest) h.window more s.1 in
+    let p = number_line (codes "line=") (one_of (4 ∷ 8 ∷ 16 ∷ 32 ∷ 64 ∷ [])) after_line h.geometry.line ((h.geometry.slots ∷ []) ∷ n) e in
+    let q = number_line (codes "slots=") (one_of (1 ∷ 2 ∷ 4 ∷ 8 ∷ 16 ∷ 32 ∷ 64 ∷ [])) after_slots h.geometry.slots n p.1 in
+    let r = number_line (codes "hit=") (between 1 255) after_hit h.hit m q.1 in
+    let s = number_line (codes "penalty=") (between 0 4095) after_penalty h.penalty w r.1 in
+    let t = number_line (codes "window=") (between 1 99999999) (λ _. rest) h.window more s.1 in
     let hit = between_parts 1 255 h.hit r.0 in
     let window = between_parts 1 99999999 h.window t.0 in (
       record {
@@ -178,7 +178,7 @@ ranges c h =
     let after_blocks : List (List ℕ) = counted loop_row c.loops (counted edge_row c.edges []) in
     let next : List ℕ → Format = λ fs. lines (first fs) block_form (loops_format (first fs)) in
     let p = header_of c.header (line blocks_form next) (counted block_row c.blocks after_blocks) h in
-    let q = number-line (codes "blocks=") (between 1 128) next n (map block_row c.blocks ++ after-blocks) p.1 in
+    let q = number_line (codes "blocks=") (between 1 128) next n (map block_row c.blocks ++ after_blocks) p.1 in
     let r = listed_lines block_form block_row c.blocks (loops_format n) after_blocks q.1 in
     let count = between_parts 1 128 n q.0 in
     let l = loops_of n c.loops c.edges r.1 in

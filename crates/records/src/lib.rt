@@ -1,4 +1,6 @@
 // A task record: what stands in it, and which texts are one.
+#![tactic(auto)]
+
 ghost use Rattle.records.specs.Contents.{contents_of};
 ghost use Rattle.records.specs.Layout.{InFormat};
 

@@ -1,4 +1,6 @@
 // From bytes to the report of a task, or the exact refusal.
+#![tactic(auto)]
+
 ghost use Rattle.std.specs.Prelude.{◌≡◌, MatchResult};
 ghost use Rattle.task.specs.View.{task_contents};
 ghost use Rattle.load.specs.declared.refusal.Refusal.TheVariants.{NoMemory};

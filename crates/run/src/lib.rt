@@ -1,5 +1,7 @@
 // The plain run of a walk: what the cache and the counts come to, from the task and the starting cache alone. An
 // open walk is such a run that goes on block by block.
+#![tactic(auto)]
+
 ghost use Rattle.std.specs.Prelude.{◌≡◌, ◌<◌, length, IfOk, OnErr};
 ghost use Rattle.task.specs.View.{task_contents};
 ghost use Rattle.run.specs.Run.{entered, fresh};

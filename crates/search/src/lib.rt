@@ -1,4 +1,6 @@
 // The search for the greatest charge of a walk within the limits, over any tally.
+#![tactic(auto)]
+
 ghost use Rattle.std.specs.Prelude.{◌≡◌, ℕ, suc, ◌+◌, ◌^◌, ◌<◌, ◌≤◌, List, length, get_or, drop, Decides, slice_index_or, slice_set};
 ghost use Rattle.task.specs.Graph.{loop_at, Within};
 ghost use Rattle.task.specs.View.{task_contents};

@@ -1,4 +1,6 @@
 // Settling: one fixpoint over lent lists of states, for every kind of facts.
+#![tactic(auto)]
+
 ghost use Rattle.std.specs.Prelude.{◌≡◌, ℕ, ◌+◌, ◌*◌, ◌<◌, ◌≤◌, true, not, [], length, replicate, Some, slice_set};
 ghost use Rattle.facts.specs.Space.{placed};
 ghost use Rattle.facts.specs.Settling.{region_of, leads_on, leads_in, starts, predecessors, state_at, end_state, gathered, pass as passed, unchanged, passes as passesOf};

@@ -1,4 +1,6 @@
 // Settling run on worked records, with each kind of facts.
+#![tactic(auto)]
+
 #[cfg(test)]
 mod tests {
     use facts::Facts;

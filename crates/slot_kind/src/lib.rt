@@ -1,4 +1,6 @@
 // The slot kind of cache state: for each slot of the cache, the program line known to be in it.
+#![tactic(auto)]
+
 ghost use Rattle.std.specs.Prelude.{◌≡◌, ◌<◌};
 ghost use Rattle.slot_kind.specs.Slots.{slot_kind, slots_taken, slots_fetched, line_in, stored_line, common_lines, known_slots};
 ghost use Rattle.slot_kind.specs.Laws.{slots_few, slots_lawful, slots_distributing, slots_everywhere, slots_fetching, fetch_through};

@@ -1,4 +1,6 @@
 // What a walk is charged: anything that can be added up and compared.
+#![tactic(auto)]
+
 ghost use Rattle.std.specs.Prelude.{◌≡◌, ℕ, ◌+◌, ◌*◌, ◌^◌, ◌<◌, Bool, nat_lt};
 ghost use Rattle.tally.specs.Laws.{TallyLaws, ops_of};
 ghost use Rattle.tally.specs.Kinds.{added_cycles, many_cycles, fewer_cycles, cycles_size, no_pair, added_pairs, many_pairs, lower_pair, pair_size};

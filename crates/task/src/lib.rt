@@ -1,4 +1,6 @@
 // A task whose graph keeps every rule.
+#![tactic(auto)]
+
 ghost use Rattle.records.specs.View.{contents};
 ghost use Rattle.task.specs.Rules.{Sound};
 

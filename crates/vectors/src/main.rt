@@ -1,5 +1,7 @@
 // Loads every stored record and compares what comes of it with what is stored: the same refusal, or the same bytes written back
 // and the same findings of an examination with each kind of cache state.
+#![tactic(auto)]
+
 use cache_state::CacheState;
 use examine::examination::*;
 use examine::examine;

@@ -85,7 +85,7 @@ text_bound c f =
     let n : ℕ = length c.blocks in
     let header = header-length c.header r.header in
     let blocks = list_length (codes "blocks=") (codes "block=") block_row 24 c.blocks (omega arith) (All-weaker BlockRange _ block-length c.blocks r.blocks) in
-    let loops = list_length (codes "loops=") (codes "loop=") loop_row 19 c.loops (omega arith) (All-weaker (LoopRange n) _ (loop-length n r.few-blocks) c.loops r.loops) in
-    let edges = list_length (codes "edges=") (codes "edge=") edge_row 13 c.edges (omega arith) (All-weaker (EdgeRange n) _ (edge-length n r.few-blocks) c.edges r.edges) in
+    let loops = list_length (codes "loops=") (codes "loop=") loop_row 19 c.loops (omega arith) (All-weaker (LoopRange n) _ (loop-length n r.few_blocks) c.loops r.loops) in
+    let edges = list_length (codes "edges=") (codes "edge=") edge_row 13 c.edges (omega arith) (All-weaker (EdgeRange n) _ (edge-length n r.few_blocks) c.edges r.edges) in
     let whole = ap length (record_parts c) ∙ four_length (header_text c.header) (blocks_text c.blocks) (loops_text c.loops) (edges_text c.edges) in
     omega arith

@@ -1,4 +1,6 @@
 // Writing the text of a record into a lent buffer. Nothing is allocated.
+#![tactic(auto)]
+
 ghost use Rattle.records.specs.Layout.{record_text};
 ghost use Rattle.records.specs.View.{contents};
 ghost use Rattle.writer.specs.Lays.{Lays};

@@ -7,8 +7,8 @@ use Rattle.buffer.proofs.Puts.{put_then, put_one, put_none, put_same, put_length
 use Rattle.buffer.proofs.+put_digits.Goals as goal
 use Rattle.buffer.proofs.+put_digits.Goals.{Joined-n-lt10, then-n-lt10, else-n-lt10}
 
-pub put-digits-last-requires : goal.put-digits-last-requires
-put-digits-last-requires t c = omega (arith, c.requires, length-step c.args.n c.if-n-lt10.false (omega arith))
+pub put_digits-last-requires : goal.put_digits-last-requires
+put_digits-last-requires t c = omega (arith, c.requires, length-step c.args.n c.if-n-lt10.false (omega arith))
 
 -- what stands before the last digit is put
 record Begun (n at : ℕ) (old : List ℕ) (last : ℕ) (mid : List ℕ) : Type 0 where
@@ -26,7 +26,7 @@ begun t c = elim c.if-n-lt10.branch [
   | else-n-lt10 w ↦ record {
     front = decimal (c.args.n / 10);
     whole = decimal_step c.args.n w.if-n-lt10.false (omega arith);
-    put = rw (w.last-is, w.out-is) w.put-digits-last.ensures;
+    put = rw (w.last-is, w.out-is) w.put_digits-last.ensures;
   }
 ]
 

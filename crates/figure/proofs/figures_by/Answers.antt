@@ -16,9 +16,9 @@ greatest-requires c =
     let fs = c.deref.result.now in
     let ns = c.deref-2.result.now in
     let ss = c.deref-3.result.now in
-    let fs-are = c.deref.ensures.value ∙ c.in-ok-first.ensures in
-    let ns-are = c.deref-2.ensures.value ∙ c.in-ok-later.ensures in
-    let ss-are = c.deref-3.ensures.value ∙ c.in-ok-lines.ensures in
+    let fs-are = c.deref.ensures.value ∙ c.in_ok-first.ensures in
+    let ns-are = c.deref-2.ensures.value ∙ c.in_ok-later.ensures in
+    let ss-are = c.deref-3.ensures.value ∙ c.in_ok-lines.ensures in
     record {
       ones = firsts_long block_cycles stay_cycles k m fs ns ss fs-are ns-are ss-are;
       twos = laters_long block_cycles stay_cycles k m fs ns ss fs-are ns-are ss-are;
@@ -34,9 +34,9 @@ greatest-requires-2 c =
     let fs = c.deref-4.result.now in
     let ns = c.deref-5.result.now in
     let ss = c.deref-6.result.now in
-    let fs-are = c.deref-4.ensures.value ∙ c.in-ok-first.ensures in
-    let ns-are = c.deref-5.ensures.value ∙ c.in-ok-later.ensures in
-    let ss-are = c.deref-6.ensures.value ∙ c.in-ok-lines.ensures in
+    let fs-are = c.deref-4.ensures.value ∙ c.in_ok-first.ensures in
+    let ns-are = c.deref-5.ensures.value ∙ c.in_ok-later.ensures in
+    let ss-are = c.deref-6.ensures.value ∙ c.in_ok-lines.ensures in
     record {
       ones = firsts_long block_pair stay_pair k m fs ns ss fs-are ns-are ss-are;
       twos = laters_long block_pair stay_pair k m fs ns ss fs-are ns-are ss-are;
@@ -53,9 +53,9 @@ returns c =
     record {
       rows = c.requires;
       cycles = found block_cycles stay_cycles k m c.deref.result.now c.deref-2.result.now c.deref-3.result.now
-          (c.deref.ensures.value ∙ c.in-ok-first.ensures) (c.deref-2.ensures.value ∙ c.in-ok-later.ensures) (c.deref-3.ensures.value ∙ c.in-ok-lines.ensures)
-          cycle_tally cycles_size cycles_lawful format task.sound c.in-ok-cycles.cycles c.in-ok-cycles.ensures;
+          (c.deref.ensures.value ∙ c.in_ok-first.ensures) (c.deref-2.ensures.value ∙ c.in_ok-later.ensures) (c.deref-3.ensures.value ∙ c.in_ok-lines.ensures)
+          cycle_tally cycles_size cycles_lawful format task.sound c.in_ok-cycles.cycles c.in_ok-cycles.ensures;
       greatest = found block_pair stay_pair k m c.deref-4.result.now c.deref-5.result.now c.deref-6.result.now
-          (c.deref-4.ensures.value ∙ c.in-ok-first.ensures) (c.deref-5.ensures.value ∙ c.in-ok-later.ensures) (c.deref-6.ensures.value ∙ c.in-ok-lines.ensures)
-          pair_tally pair_size pairs_lawful format task.sound c.in-ok-pair.pair c.in-ok-pair.ensures;
+          (c.deref-4.ensures.value ∙ c.in_ok-first.ensures) (c.deref-5.ensures.value ∙ c.in_ok-later.ensures) (c.deref-6.ensures.value ∙ c.in_ok-lines.ensures)
+          pair_tally pair_size pairs_lawful format task.sound c.in_ok-pair.pair c.in_ok-pair.ensures;
     }

@@ -31,8 +31,8 @@ inside c = omega arith
 block_is : (c : After-index) → c.index.result.now ≡ block_at (task_contents c.args.task.now).blocks c.args.b
 block_is c = get_or_read (vec_items c.args.task.now.«record».blocks) c.args.b c.index.result.now (inside c) c.index.ensures _
 
-pub overflow-add-levels : goal.overflow-add-levels
-overflow-add-levels c =
+pub overflow_add-levels : goal.overflow_add-levels
+overflow_add-levels c =
     let t = task_contents c.args.task.now in
     let few = levels_few t c.args.b (omega arith) c.args.task.now.sound in
     let are = levels_are t c.args.b (omega arith) in
@@ -41,10 +41,10 @@ overflow-add-levels c =
 pub loop-fetch-init : goal.loop-fetch-init
 loop-fetch-init c = lays_none c.args.at c.args.out.now
 
-pub overflow-add-first : goal.overflow-add-first
-overflow-add-first c =
+pub overflow_add-first : goal.overflow_add-first
+overflow_add-first c =
     let t = task_contents c.args.task.now in
-    let n = ap (λ (x : Block). x.fetches) (block_is (goal.at.overflow-add-first c).After-index) in
+    let n = ap (λ (x : Block). x.fetches) (block_is (goal.at.overflow_add-first c).After-index) in
     let rows = rows_end t.blocks c.args.b (omega arith) in
     let few = few_rows t c.args.task.now.sound in
     omega arith
@@ -58,15 +58,15 @@ loop-fetch-preserved c =
     let is = block_is (goal.at.loop-fetch-preserved c).After-index in
     let n = ap (λ (x : Block). x.fetches) is in
     let here = inside (goal.at.loop-fetch-preserved c).After-index in
-    let line : c.program-line-line.result ≡ line_of t b j =
-    line_fits t.header.geometry c.index.result.now j c.program-line-line.result c.program-line-line.ensures
+    let line : c.program_line-line.result ≡ line_of t b j =
+    line_fits t.header.geometry c.index.result.now j c.program_line-line.result c.program_line-line.ensures
     (ap placed is ∙ block_placed t c.args.task.now.sound b here) c.loop-fetch-test.true
     ∙ ap (λ x. fetch_line t.header.geometry x j) is in
     lays_same (joined_count (fetch_text t (shown t e) b) 0 j j (omega arith)
     ∙ ap (λ x. flat_map (fetch_text t (shown t e) b) (range_with_len 0 j) ++ x)
-    (fetch_parts t b here e j (omega (arith, n)) c.program-line-line.result (c.fetches-before-first.result + j) (c.level-of-levels.result + 1) c.as-slice.result.now
-    line (ap (λ x. x + j) c.fetches-before-first.ensures) (omega (arith, levels_are t b here)) c.as-slice.ensures.value))
-    (lays_then c.loop-fetch.invariant (lays_then c.lay-place-end.ensures (lays_then c.lay-categories-end.ensures c.lay-bytes-end.ensures)))
+    (fetch_parts t b here e j (omega (arith, n)) c.program_line-line.result (c.fetches_before-first.result + j) (c.level_of-levels.result + 1) c.as_slice.result.now
+    line (ap (λ x. x + j) c.fetches_before-first.ensures) (omega (arith, levels_are t b here)) c.as_slice.ensures.value))
+    (lays_then c.loop-fetch.invariant (lays_then c.lay_place-end.ensures (lays_then c.lay_categories-end.ensures c.lay_bytes-end.ensures)))
 
 pub returns : goal.returns
 returns c =

@@ -9,11 +9,11 @@ use Rattle.listing.proofs.list.Goals as goal
 pub returns-then-out-needed : goal.returns-then-out-needed
 returns-then-out-needed c =
     let t = task_contents c.args.task.now in
-    refused (block_text t (shown t c.args.found.now) c.args.b) c.args.out.now _ c.lay-block-needed.result
-    (block_small t c.args.task.now.«record».ranges c.args.task.now.sound c.args.found.now c.args.b) c.lay-block-needed.ensures c.if-out-needed.true
+    refused (block_text t (shown t c.args.found.now) c.args.b) c.args.out.now _ c.lay_block-needed.result
+    (block_small t c.args.task.now.«record».ranges c.args.task.now.sound c.args.found.now c.args.b) c.lay_block-needed.ensures c.if-out-needed.true
 
 pub returns : goal.returns
 returns c =
     let t = task_contents c.args.task.now in
-    wrote (block_text t (shown t c.args.found.now) c.args.b) c.args.out.now _ _ c.lay-block-needed.result _
-    (block_small t c.args.task.now.«record».ranges c.args.task.now.sound c.args.found.now c.args.b) c.lay-block-needed.ensures c.if-out-needed.false c.lay-block.ensures
+    wrote (block_text t (shown t c.args.found.now) c.args.b) c.args.out.now _ _ c.lay_block-needed.result _
+    (block_small t c.args.task.now.«record».ranges c.args.task.now.sound c.args.found.now c.args.b) c.lay_block-needed.ensures c.if-out-needed.false c.lay_block.ensures

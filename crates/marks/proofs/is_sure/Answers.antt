@@ -10,6 +10,6 @@ returns g c =
     let t = task_contents c.args.task.now in
     let s = t.header.geometry in
     let read = read_block t c.args.task.now.sound c.args.b c.args.fetch c.index.result.now c.requires.block c.requires.fetch c.index.ensures in
-    c.sure-fetch.ensures (g.met.K.CacheState.everywhere s (record_in_range t c.args.task.now.«record».ranges))
+    c.sure_fetch.ensures (g.met.K.CacheState.everywhere s (record_in_range t c.args.task.now.«record».ranges))
     read.1 read.2
     ∙ ap (λ x. sure_fetch s (g.K.Facts.kind s) (g.K.CacheState.fetched s) x c.args.fetch c.args.state.now) read.0

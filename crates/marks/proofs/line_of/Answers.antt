@@ -10,6 +10,6 @@ returns c =
     let t = task_contents c.args.task.now in
     let s = t.header.geometry in
     let read = read_block t c.args.task.now.sound c.args.b c.args.fetch c.index.result.now c.requires.block c.requires.fetch c.index.ensures in
-    line_fits s c.index.result.now c.args.fetch c.program-line.result c.program-line.ensures
+    line_fits s c.index.result.now c.args.fetch c.program_line.result c.program_line.ensures
     read.1 read.2
     ∙ ap (λ x. fetch_line s x c.args.fetch) read.0

@@ -12,32 +12,32 @@ use Rattle.marks.proofs.mark.Goals as goal
 pub overflow-cast-blocks : goal.overflow-cast-blocks
 overflow-cast-blocks g c = let few = (ranges (task_contents c.args.task.now) c.args.task.now.«record».ranges).few_blocks in omega arith
 
-pub settle-task-requires : goal.settle-task-requires
-settle-task-requires g c =
-    let fitting = c.if-not-lists-fit.ensures.0 refl in
+pub settle_task-requires : goal.settle_task-requires
+settle_task-requires g c =
+    let fitting = c.if-not-lists_fit.ensures.0 refl in
     let room = fitting.walks in
     let few = (ranges (task_contents c.args.task.now) c.args.task.now.«record».ranges).few_blocks in
     record { taken = le-leb c.len-blocks.result 128 (omega arith); room = omega arith }
 
-pub settle-task-passes-requires : goal.settle-task-passes-requires
-settle-task-passes-requires g c =
+pub settle_task-passes-requires : goal.settle_task-passes-requires
+settle_task-passes-requires g c =
     let t = task_contents c.args.task.now in
     record { taken = g.met.K.CacheState.everywhere t.header.geometry (record_in_range t c.args.task.now.«record».ranges); room = omega arith }
 
-pub mark-loops-requires : goal.mark-loops-requires
-mark-loops-requires g c =
-    let fitting = c.if-not-lists-fit.ensures.0 refl in
+pub mark_loops-requires : goal.mark_loops-requires
+mark_loops-requires g c =
+    let fitting = c.if-not-lists_fit.ensures.0 refl in
     let both = fitting.whole_and_round in
     let t = task_contents c.args.task.now in
     let n : c.len-blocks.result ≡ length (vec_items c.args.task.now.«record».blocks) = omega arith in
     record {
       room = omega arith;
       rows = fitting.fetches;
-      whole = c.settle-task-passes.ensures.settled;
-      walks = subst (λ m. Settled t c.settle-task.new.states (task_states (passed_kind m) t).0) n c.settle-task.ensures.settled;
+      whole = c.settle_task-passes.ensures.settled;
+      walks = subst (λ m. Settled t c.settle_task.new.states (task_states (passed_kind m) t).0) n c.settle_task.ensures.settled;
     }
 
 pub returns : goal.returns
 returns g c =
-    marked_some g.K.Facts.kind g.K.CacheState.fetched (task_contents c.args.task.now) _ _ c.settle-task-passes.result c.settle-task-passes.ensures.passes
-    (c.if-not-lists-fit.ensures.0 refl) c.mark-loops.ensures
+    marked_some g.K.Facts.kind g.K.CacheState.fetched (task_contents c.args.task.now) _ _ c.settle_task-passes.result c.settle_task-passes.ensures.passes
+    (c.if-not-lists_fit.ensures.0 refl) c.mark_loops.ensures

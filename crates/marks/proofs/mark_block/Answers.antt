@@ -11,8 +11,8 @@ loop-fetch-preserved g c =
     let e = ap (λ (x : Block). x.fetches)
     (get_or_read (vec_items c.args.task.now.«record».blocks) c.args.b c.index.result.now c.requires.block c.index.ensures (record { address = 0; fetches = 0; cycles = 0 })) in
     let l : c.args.row + c.loop-fetch.fetch < length c.loop-fetch.table = omega arith in
-    filled_more c.loop-fetch.table c.store.new.table c.loop-fetch.fetch c.category-of-category.result c.loop-fetch.invariant
-    c.store.ensures.table c.category-of-category.ensures l c.store.ensures.row c.requires.level
+    filled_more c.loop-fetch.table c.store.new.table c.loop-fetch.fetch c.category_of-category.result c.loop-fetch.invariant
+    c.store.ensures.table c.category_of-category.ensures l c.store.ensures.row c.requires.level
 
 pub returns : goal.returns
 returns g c =

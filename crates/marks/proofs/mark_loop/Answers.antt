@@ -9,20 +9,20 @@ use Rattle.marks.proofs.Sounds.{level_low}
 use Rattle.marks.proofs.Progress.{marked_begun, marked_loop, block_marked}
 use Rattle.marks.proofs.mark_loop.Goals as goal
 
-pub overflow-add-b-end : goal.overflow-add-b-end
-overflow-add-b-end g c = let few = (ranges (task_contents c.args.task.now) c.args.task.now.«record».ranges).few_blocks in omega (arith, c.loop-at-range.ensures.blocks c.requires.number)
+pub overflow_add-b-end : goal.overflow_add-b-end
+overflow_add-b-end g c = let few = (ranges (task_contents c.args.task.now) c.args.task.now.«record».ranges).few_blocks in omega (arith, c.loop_at-range.ensures.blocks c.requires.number)
 
 pub loop-b-init : goal.loop-b-init
 loop-b-init g c =
     let t = task_contents c.args.task.now in
-    let e = ap (λ (l : Loop). l.header) c.loop-at-range.ensures.range in
+    let e = ap (λ (l : Loop). l.header) c.loop_at-range.ensures.range in
     subst (λ b. MarkedTo t (task_marks g.K.Facts.kind g.K.CacheState.fetched t) c.args.number b c.args.table.now) (sym e)
     (marked_begun t (task_marks g.K.Facts.kind g.K.CacheState.fetched t) c.args.number c.args.table.now c.requires.before)
 
-pub mark-block-requires : goal.mark-block-requires
-mark-block-requires g c =
+pub mark_block-requires : goal.mark_block-requires
+mark_block-requires g c =
     let t = task_contents c.args.task.now in
-    let inside = c.loop-at-range.ensures.blocks c.requires.number in
+    let inside = c.loop_at-range.ensures.blocks c.requires.number in
     let l : c.loop-b.b < length (vec_items c.args.task.now.«record».blocks) = omega arith in
     let rows = rows_end (vec_items c.args.task.now.«record».blocks) c.loop-b.b l in
     let low = level_low t c.args.task.now.sound c.loop-b.b c.args.number l in
@@ -32,13 +32,13 @@ pub loop-b-preserved : goal.loop-b-preserved
 loop-b-preserved g c =
     let t = task_contents c.args.task.now in
     block_marked g.K.Facts.kind g.K.CacheState.fetched t c.args.task.now.«record».ranges c.args.number c.requires.number
-    c.loop-b.b c.loop-b.table c.mark-block.new.table c.args.settled.now c.args.first.now c.args.passed.now
-    c.loop-at-range.result c.fetches-before-row.result c.level-of-level.result c.index-settled-b.result c.index-first-b.result c.is-gated-gated.result
-    c.requires.whole c.requires.round c.requires.walks c.loop-at-range.ensures.range c.fetches-before-row.ensures c.level-of-level.ensures
-    (omega arith) c.loop-b.auto.b (omega arith) c.index-settled-b.is c.index-first-b.is c.is-gated-gated.ensures c.loop-b.invariant c.mark-block.ensures
+    c.loop-b.b c.loop-b.table c.mark_block.new.table c.args.settled.now c.args.first.now c.args.passed.now
+    c.loop_at-range.result c.fetches_before-row.result c.level_of-level.result c.index-settled-b.result c.index-first-b.result c.is_gated-gated.result
+    c.requires.whole c.requires.round c.requires.walks c.loop_at-range.ensures.range c.fetches_before-row.ensures c.level_of-level.ensures
+    (omega arith) c.loop-b.auto.b (omega arith) c.index-settled-b.is c.index-first-b.is c.is_gated-gated.ensures c.loop-b.invariant c.mark_block.ensures
 
 pub returns : goal.returns
 returns g c =
     let t = task_contents c.args.task.now in
-    let e = ap (λ (l : Loop). l.last) c.loop-at-range.ensures.range in
+    let e = ap (λ (l : Loop). l.last) c.loop_at-range.ensures.range in
     marked_loop t (task_marks g.K.Facts.kind g.K.CacheState.fetched t) c.args.number c.loop-b.b c.loop-b.table (omega arith) c.loop-b.invariant

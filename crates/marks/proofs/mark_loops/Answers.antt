@@ -9,12 +9,12 @@ loop-number-init g c =
     let t = task_contents c.args.task.now in
     marked_none t (task_marks g.K.Facts.kind g.K.CacheState.fetched t) c.args.table.now
 
-pub mark-loop-requires : goal.mark-loop-requires
-mark-loop-requires g c = record {
+pub mark_loop-requires : goal.mark_loop-requires
+mark_loop-requires g c = record {
   number = omega arith;
   rows = omega arith;
   whole = c.requires.whole;
-  round = c.settle-first.ensures;
+  round = c.settle_first.ensures;
   walks = c.requires.walks;
   before = c.loop-number.invariant;
 }

@@ -14,15 +14,15 @@ returns-in-Some g c =
     let s = t.header.geometry in
     let k = g.K.Facts.kind s in
     let takes = g.met.K.CacheState.everywhere s (record_in_range t c.args.task.now.«record».ranges) in
-    let bs = c.as-slice-blocks.result.now in
-    let es = c.as-slice-edges.result.now in
+    let bs = c.as_slice-blocks.result.now in
+    let es = c.as_slice-edges.result.now in
     let known = entry_known k (g.K.Facts.takes s) takes t c.args.task.now.«record».ranges c.args.task.now.sound c.args.number c.requires.number
-    bs es c.loop-at-range.result c.as-slice-blocks.ensures.value c.as-slice-edges.ensures.value c.loop-at-range.ensures.range
+    bs es c.loop_at-range.result c.as_slice-blocks.ensures.value c.as_slice-edges.ensures.value c.loop_at-range.ensures.range
     c.args.settled.now c.requires.whole.room c.requires.whole (Some c.in-Some.entry) c.in-Some.ensures in
     let entry : c.in-Some.entry ≡ entry_state k (region_of t.blocks t.edges (loop_at (all_loops t) c.args.number)) (task_states k t).0 = cc in
     subst (λ x. Settled t c.settle.new.states (settled k (region_of t.blocks t.edges (loop_at (all_loops t) c.args.number)) x).0) entry
     (settled_front k (g.K.Facts.takes s) takes t c.args.task.now.«record».ranges c.args.task.now.sound c.args.number c.requires.number
-    bs es c.loop-at-range.result c.as-slice-blocks.ensures.value c.as-slice-edges.ensures.value c.loop-at-range.ensures.range
+    bs es c.loop_at-range.result c.as_slice-blocks.ensures.value c.as_slice-edges.ensures.value c.loop_at-range.ensures.range
     c.args.first.now c.requires.room c.in-Some.entry c.settle.result c.settle.new.states c.settle.ensures.outcome).1
 
 pub returns-in-default : goal.returns-in-default
@@ -31,10 +31,10 @@ returns-in-default g c =
     let s = t.header.geometry in
     let k = g.K.Facts.kind s in
     let takes = g.met.K.CacheState.everywhere s (record_in_range t c.args.task.now.«record».ranges) in
-    let bs = c.as-slice-blocks.result.now in
-    let es = c.as-slice-edges.result.now in
+    let bs = c.as_slice-blocks.result.now in
+    let es = c.as_slice-edges.result.now in
     let known = entry_known k (g.K.Facts.takes s) takes t c.args.task.now.«record».ranges c.args.task.now.sound c.args.number c.requires.number
-    bs es c.loop-at-range.result c.as-slice-blocks.ensures.value c.as-slice-edges.ensures.value c.loop-at-range.ensures.range
+    bs es c.loop_at-range.result c.as_slice-blocks.ensures.value c.as_slice-edges.ensures.value c.loop_at-range.ensures.range
     c.args.settled.now c.requires.whole.room c.requires.whole None c.in-default.ensures in
     let z : ◌≡◌ {A = ℕ} 0 1 = cc in
     absurd (omega arith)

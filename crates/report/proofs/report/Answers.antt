@@ -15,16 +15,16 @@ same t c (inr e) = let z : ◌≡◌ {A = ℕ} 0 1 = cc in absurd (omega arith)
 
 pub returns : goal.returns
 returns c =
-    let t = c.in-ok-task.task in
+    let t = c.in_ok-task.task in
     let k = task_contents t in
-    let f = c.in-ok-found.ensures in
+    let f = c.in_ok-found.ensures in
     record {
       outcome = record {
         contents = k;
         format = t.«record».ranges;
         sound = t.sound;
-        bytes_are = c.in-ok-task.ensures.outcome;
-        text_is = c.in-ok-text.ensures ∙ ap (report_text k) f.0;
+        bytes_are = c.in_ok-task.ensures.outcome;
+        text_is = c.in_ok-text.ensures ∙ ap (report_text k) f.0;
       };
-      worth = λ d format sound e. subst Worthy (same t d (c.in-ok-task.ensures.back d format sound e)) (worthy k t.«record».ranges t.sound f.1);
+      worth = λ d format sound e. subst Worthy (same t d (c.in_ok-task.ensures.back d format sound e)) (worthy k t.«record».ranges t.sound f.1);
     }

@@ -19,8 +19,8 @@ pub returns : goal.returns
 returns c =
     let t = c.args.task.now in
     let text = c.in-Ok.text in
-    let out = c.lay-report.new.out in
-    with_items_is text out (omega (arith, c.lay-report.auto.out, c.deref-mut.ensures.len))
-    ∙ fills (report_text (task_contents t) (shown (task_contents t) c.args.found.now)) c.deref-mut.result.now _ out c.lay-report-length.result c.lay-report.result
-    (report_small (task_contents t) t.«record».ranges t.sound c.args.found.now) c.lay-report-length.ensures
-    (omega (arith, c.deref-mut.ensures.len, c.in-Ok.ensures.made)) c.lay-report.ensures
+    let out = c.lay_report.new.out in
+    with_items_is text out (omega (arith, c.lay_report.auto.out, c.deref_mut.ensures.len))
+    ∙ fills (report_text (task_contents t) (shown (task_contents t) c.args.found.now)) c.deref_mut.result.now _ out c.lay_report-length.result c.lay_report.result
+    (report_small (task_contents t) t.«record».ranges t.sound c.args.found.now) c.lay_report-length.ensures
+    (omega (arith, c.deref_mut.ensures.len, c.in-Ok.ensures.made)) c.lay_report.ensures

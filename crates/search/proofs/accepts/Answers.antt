@@ -11,6 +11,6 @@ returns g c =
     let m = ops_of t.none t.plus t.multiple t.below in
     let task = c.args.task.now in
     accepts_decides m t.size (task_contents task) c.args.first.now c.args.later.now c.args.stays.now c.args.work.now
-    c.are-costs.result c.are-costs-2.result c.are-costs-3.result c.len-blocks.result c.len-loops.result
-    c.are-costs.ensures c.are-costs-2.ensures c.are-costs-3.ensures (c.len-blocks.ensures ∙ task.«record».blocks.ok.0)
+    c.are_costs.result c.are_costs-2.result c.are_costs-3.result c.len-blocks.result c.len-loops.result
+    c.are_costs.ensures c.are_costs-2.ensures c.are_costs-3.ensures (c.len-blocks.ensures ∙ task.«record».blocks.ok.0)
     (c.len-loops.ensures ∙ task.«record».loops.ok.0)

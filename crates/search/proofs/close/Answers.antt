@@ -12,8 +12,8 @@ loop-b-init g c =
     closing_none (ops_of t.none t.plus t.multiple t.below) c.args.l c.args.stay c.args.turn c.args.work.now
     c.requires.low c.requires.room
 
-pub close-block-requires : goal.close-block-requires
-close-block-requires g c =
+pub close_block-requires : goal.close_block-requires
+close_block-requires g c =
     let t = g.T.Tally in
     let m = ops_of t.none t.plus t.multiple t.below in
     let l = c.args.l in
@@ -42,7 +42,7 @@ loop-b-preserved g c =
     c.loop-b.invariant x c.loop-b-test.true c.loop-b.auto.b c.loop-b.auto.work
     (ap (whole m l.limit c.args.stay c.args.turn) v) in
     subst (λ u. Closing m l c.args.stay c.args.turn c.args.work.now c.requires.low c.requires.room u (b - 1))
-    (sym c.close-block.ensures) done
+    (sym c.close_block.ensures) done
 
 pub returns : goal.returns
 returns g c =

@@ -4,16 +4,16 @@ use Rattle.task.specs.View.{task_contents}
 use Rattle.search.proofs.Calls.{some_cells, stays_long, each_ready, task_ready, table_is}
 use Rattle.search.proofs.fill_table.Goals as goal
 
-pub overflow-sub-whole-task : goal.overflow-sub-whole-task
-overflow-sub-whole-task g c =
+pub overflow_sub-whole_task : goal.overflow_sub-whole_task
+overflow_sub-whole_task g c =
     let t = g.T.Tally in
     let m = ops_of t.none t.plus t.multiple t.below in
     let task = c.args.task.now in
     some_cells m t.size (task_contents task) c.args.first.now c.args.later.now c.args.stays.now c.args.work.now
     g.met.T.Tally.lawful task.«record».ranges task.sound c.requires
 
-pub named-loops-requires : goal.named-loops-requires
-named-loops-requires g c =
+pub named_loops-requires : goal.named_loops-requires
+named_loops-requires g c =
     let t = g.T.Tally in
     let m = ops_of t.none t.plus t.multiple t.below in
     let task = c.args.task.now in
@@ -28,15 +28,15 @@ named-loops-requires g c =
           (c.start.ensures c.args.stays.now);
     }
 
-pub one-loop-requires : goal.one-loop-requires
-one-loop-requires g c =
+pub one_loop-requires : goal.one_loop-requires
+one_loop-requires g c =
     let t = g.T.Tally in
     let m = ops_of t.none t.plus t.multiple t.below in
     let task = c.args.task.now in
     task_ready m t.size (task_contents task) c.args.first.now c.args.later.now c.args.stays.now c.args.work.now
     g.met.T.Tally.lawful task.«record».ranges task.sound c.requires c.deref.result.now c.deref.ensures.value
     c.deref-2.result.now c.deref-2.ensures.value c.start.new.work (c.start.ensures c.args.stays.now)
-    c.named-loops.new.work c.named-loops.ensures c.deref-3.result.now c.deref-3.ensures.value
+    c.named_loops.new.work c.named_loops.ensures c.deref-3.result.now c.deref-3.ensures.value
     c.index-stays-0.result c.index-stays-0.is
 
 pub returns : goal.returns
@@ -47,5 +47,5 @@ returns g c =
     table_is m t.size (task_contents task) c.args.first.now c.args.later.now c.args.stays.now c.args.work.now
     g.met.T.Tally.lawful task.«record».ranges task.sound c.requires c.deref.result.now c.deref.ensures.value
     c.deref-2.result.now c.deref-2.ensures.value c.start.new.work (c.start.ensures c.args.stays.now)
-    c.named-loops.new.work c.named-loops.ensures c.deref-3.result.now c.deref-3.ensures.value
-    c.index-stays-0.result c.index-stays-0.is c.one-loop.new.work c.one-loop.ensures
+    c.named_loops.new.work c.named_loops.ensures c.deref-3.result.now c.deref-3.ensures.value
+    c.index-stays-0.result c.index-stays-0.is c.one_loop.new.work c.one_loop.ensures

@@ -9,8 +9,8 @@ use Rattle.search.proofs.greatest_charge.Goals as goal
 pub returns-then-not-accepts : goal.returns-then-not-accepts
 returns-then-not-accepts g c = (λ ok. false≢true (c.if-not-accepts.ensures.1 ok), refl)
 
-pub fill-table-requires : goal.fill-table-requires
-fill-table-requires g c = c.if-not-accepts.ensures.0 refl
+pub fill_table-requires : goal.fill_table-requires
+fill_table-requires g c = c.if-not-accepts.ensures.0 refl
 
 pub returns : goal.returns
 returns g c =
@@ -20,6 +20,6 @@ returns g c =
     let ok = c.if-not-accepts.ensures.0 refl in (
       ok,
       found m t.size (task_contents task) c.args.first.now c.args.later.now c.args.stays.now c.args.work.now
-          g.met.T.Tally.lawful task.«record».ranges task.sound ok c.fill-table.new.work c.highest-of.result
-          c.fill-table.ensures c.highest-of.ensures,
+          g.met.T.Tally.lawful task.«record».ranges task.sound ok c.fill_table.new.work c.highest_of.result
+          c.fill_table.ensures c.highest_of.ensures,
     )

@@ -10,8 +10,8 @@ pub loop-cell-preserved : goal.loop-cell-preserved
 loop-cell-preserved g c =
     let t = g.T.Tally in
     let m = ops_of t.none t.plus t.multiple t.below in
-    highest_more m c.args.work.now c.loop-cell.cell-index c.cell-item.result c.loop-cell.most c.greater-of-most.result
-    c.loop-cell-test.true c.cell-item.is c.greater-of-most.ensures ∙ c.loop-cell.invariant
+    highest_more m c.args.work.now c.loop-cell.cell-index c.cell-item.result c.loop-cell.most c.greater_of-most.result
+    c.loop-cell-test.true c.cell-item.is c.greater_of-most.ensures ∙ c.loop-cell.invariant
 
 pub returns : goal.returns
 returns g c =

@@ -10,8 +10,8 @@ loop-i-init g c =
     named_none (ops_of t.none t.plus t.multiple t.below) t.size c.args.edges.now c.args.loops.now
     c.args.stays.now c.args.work.now
 
-pub one-loop-requires : goal.one-loop-requires
-one-loop-requires g c =
+pub one_loop-requires : goal.one_loop-requires
+one_loop-requires g c =
     let t = g.T.Tally in
     named_ready (ops_of t.none t.plus t.multiple t.below) t.size c.args.edges.now c.args.loops.now
     c.args.stays.now c.args.work.now c.loop-i.i c.index-stays-i.result c.loop-i-test.true c.loop-i.auto.i
@@ -22,7 +22,7 @@ loop-i-preserved g c =
     let t = g.T.Tally in
     named_more (ops_of t.none t.plus t.multiple t.below) t.size c.args.edges.now c.args.loops.now
     c.args.stays.now c.args.work.now c.loop-i.i c.index-stays-i.result c.loop-i-test.true c.loop-i.auto.i
-    c.requires.long c.index-stays-i.is c.loop-i.work c.loop-i.invariant c.one-loop.new.work c.one-loop.ensures
+    c.requires.long c.index-stays-i.is c.loop-i.work c.loop-i.invariant c.one_loop.new.work c.one_loop.ensures
 
 pub returns : goal.returns
 returns g c =

@@ -3,18 +3,18 @@ use Rattle.tally.specs.Laws.{ops_of}
 use Rattle.search.proofs.Steps.{round_low, round_room, round_values, round_small}
 use Rattle.search.proofs.one_loop.Goals as goal
 
-pub turn-of-turn-requires : goal.turn-of-turn-requires
-turn-of-turn-requires g c =
+pub turn_of-turn-requires : goal.turn_of-turn-requires
+turn_of-turn-requires g c =
     let t = g.T.Tally in
     let m = ops_of t.none t.plus t.multiple t.below in
     record {
       low = round_low m t.size c.args.edges.now c.args.l c.args.stay c.args.work.now c.requires
-          c.pass-round.new.work c.pass-round.ensures;
+          c.pass_round.new.work c.pass_round.ensures;
       room = round_room m t.size c.args.edges.now c.args.l c.args.stay c.args.work.now c.requires
-          c.pass-round.new.work c.pass-round.ensures;
+          c.pass_round.new.work c.pass_round.ensures;
       backs = c.requires.backs;
       small = round_values m t.size c.args.edges.now c.args.l c.args.stay c.args.work.now c.requires
-          c.pass-round.new.work c.pass-round.ensures;
+          c.pass_round.new.work c.pass_round.ensures;
     }
 
 pub close-requires : goal.close-requires
@@ -24,9 +24,9 @@ close-requires g c =
     record {
       some = c.requires.some;
       low = round_low m t.size c.args.edges.now c.args.l c.args.stay c.args.work.now c.requires
-          c.pass-round.new.work c.pass-round.ensures;
+          c.pass_round.new.work c.pass_round.ensures;
       room = round_room m t.size c.args.edges.now c.args.l c.args.stay c.args.work.now c.requires
-          c.pass-round.new.work c.pass-round.ensures;
+          c.pass_round.new.work c.pass_round.ensures;
       small = round_small m t.size c.args.edges.now c.args.l c.args.stay c.args.work.now c.requires
-          c.pass-round.new.work c.pass-round.ensures c.turn-of-turn.result c.turn-of-turn.ensures;
+          c.pass_round.new.work c.pass_round.ensures c.turn_of-turn.result c.turn_of-turn.ensures;
     }

@@ -20,13 +20,13 @@ loop-b-preserved g c =
     c.index-first-b.is t.none in
     let two = get_or_read c.args.later.now b c.index-later-b.result (omega (arith, c.requires.twos, c.loop-b-test.true))
     c.index-later-b.is t.none in
-    let x = cell_of b c.none-yet.result (by_round c.index-first-b.result c.index-later-b.result) in
+    let x = cell_of b c.none_yet.result (by_round c.index-first-b.result c.index-later-b.result) in
     below_more (λ k. cell_at m (set u b x) k ≡ cell_of k (none_yet m)
     (by_round (get_or c.args.first.now k t.none) (get_or c.args.later.now k t.none))) b
     (λ k l. get_or-set_other u b k x (blank m) (λ e. omega arith) ∙ c.loop-b.invariant k l)
     (get_or-set_same u b x (blank m) h
     ∙ ap (λ (r : ByRound g.row.T.Denot). cell_of b r (by_round c.index-first-b.result c.index-later-b.result))
-    c.none-yet.ensures ∙ ap (λ (y : g.row.T.Denot). cell_of b (none_yet m) (by_round y c.index-later-b.result)) one
+    c.none_yet.ensures ∙ ap (λ (y : g.row.T.Denot). cell_of b (none_yet m) (by_round y c.index-later-b.result)) one
     ∙ ap (λ (y : g.row.T.Denot). cell_of b (none_yet m) (by_round (get_or c.args.first.now b t.none) y)) two)
 
 pub returns : goal.returns

@@ -6,15 +6,15 @@ use Rattle.tally.specs.Laws.{ops_of}
 use Rattle.longest.specs.Search.{greater_both, turned}
 use Rattle.search.proofs.Steps.{turned_taken, turned_left, back_block}
 use Rattle.search.proofs.turn_of.Goals as goal
-use Rattle.search.proofs.turn_of.Goals.{then-is-backward, else-is-backward}
+use Rattle.search.proofs.turn_of.Goals.{then-is_backward, else-is_backward}
 
-pub value-at-requires : goal.value-at-requires
-value-at-requires g c =
+pub value_at-requires : goal.value_at-requires
+value_at-requires g c =
     let t = g.T.Tally in
     let m = ops_of t.none t.plus t.multiple t.below in
     let es = c.args.edges.now in
     let k = c.loop-e.e-index in
-    let q = back_block m c.args.l c.args.work.now es k c.loop-e-test.true (sym c.if-is-backward.ensures)
+    let q = back_block m c.args.l c.args.work.now es k c.loop-e-test.true (sym c.if-is_backward.ensures)
     c.requires.backs in
     let s = c.requires.small (edge_at es k).from q in
     record { block = omega (arith, q, c.requires.room); low = c.requires.low; one = s.0; more = s.1 }
@@ -27,12 +27,12 @@ loop-e-preserved g c =
     let es = c.args.edges.now in
     let k = c.loop-e.e-index in
     let lt = c.loop-e-test.true in
-    elim c.if-is-backward.branch [
-      | then-is-backward w ↦ turned_taken m c.args.l s es k lt c.loop-e.most c.if-is-backward.most
-          (sym c.is-backward.ensures ∙ w.if-is-backward.true)
-          (w.most-is ∙ w.greater-both-most.ensures ∙ ap (greater_both m c.loop-e.most) w.value-at.ensures) ∙ c.loop-e.invariant
-      | else-is-backward w ↦ turned_left m c.args.l s es k lt c.loop-e.most c.if-is-backward.most
-          (sym c.is-backward.ensures ∙ w.if-is-backward.false) w.most-is ∙ c.loop-e.invariant
+    elim c.if-is_backward.branch [
+      | then-is_backward w ↦ turned_taken m c.args.l s es k lt c.loop-e.most c.if-is_backward.most
+          (sym c.is_backward.ensures ∙ w.if-is_backward.true)
+          (w.most-is ∙ w.greater_both-most.ensures ∙ ap (greater_both m c.loop-e.most) w.value_at.ensures) ∙ c.loop-e.invariant
+      | else-is_backward w ↦ turned_left m c.args.l s es k lt c.loop-e.most c.if-is_backward.most
+          (sym c.is_backward.ensures ∙ w.if-is_backward.false) w.most-is ∙ c.loop-e.invariant
     ]
 
 pub returns : goal.returns

@@ -5,8 +5,8 @@ use Rattle.longest.specs.declared.ByRound.{ByRound}
 use Rattle.search.proofs.Steps.{read_value}
 use Rattle.search.proofs.value_at.Goals as goal
 
-pub plus-both-requires : goal.plus-both-requires
-plus-both-requires g c =
+pub plus_both-requires : goal.plus_both-requires
+plus_both-requires g c =
     let t = g.T.Tally in
     let laws = g.met.T.Tally.lawful in
     let m = ops_of t.none t.plus t.multiple t.below in
@@ -25,5 +25,5 @@ pub returns : goal.returns
 returns g c =
     let t = g.T.Tally in
     let m = ops_of t.none t.plus t.multiple t.below in
-    c.plus-both.ensures ∙ read_value m c.args.work.now c.args.b c.index-work-b.result c.index-work-cell.result
+    c.plus_both.ensures ∙ read_value m c.args.work.now c.args.b c.index-work-b.result c.index-work-cell.result
     c.requires.block c.requires.low c.index-work-b.is c.index-work-cell.is

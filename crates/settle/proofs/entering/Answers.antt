@@ -4,7 +4,7 @@ use Rattle.facts.specs.Settling.{leads_in, starts, gathered}
 use Rattle.settle.specs.Outcome.{starts_below}
 use Rattle.settle.proofs.Steps.{no_edge, every_at, gathered_more, gathered-all}
 use Rattle.settle.proofs.entering.Goals as goal
-use Rattle.settle.proofs.entering.Goals.{then-leads-in, else-leads-in}
+use Rattle.settle.proofs.entering.Goals.{then-leads_in, else-leads_in}
 
 pub add-state-requires : goal.add-state-requires
 add-state-requires g c = record {
@@ -22,10 +22,10 @@ loop-e-init g c =
 pub loop-e-preserved : goal.loop-e-preserved
 loop-e-preserved g c =
     gathered_more (g.K.Facts.kind c.args.geometry) c.args.blocks.now c.args.states.now (leads_in c.args.range) c.args.edges.now
-    c.loop-e.e-index c.loop-e.state c.if-leads-in.state c.leads_in_lem.result c.loop-e-test.true c.leads_in_lem.ensures
-    (elim c.if-leads-in.branch [
-      | then-leads-in w ↦ inl (w.if-leads-in.true, w.state-is ∙ w.add-state.ensures)
-      | else-leads-in w ↦ inr (w.if-leads-in.false, w.state-is)
+    c.loop-e.e-index c.loop-e.state c.if-leads_in.state c.leads_in_lem.result c.loop-e-test.true c.leads_in_lem.ensures
+    (elim c.if-leads_in.branch [
+      | then-leads_in w ↦ inl (w.if-leads_in.true, w.state-is ∙ w.add-state.ensures)
+      | else-leads_in w ↦ inr (w.if-leads_in.false, w.state-is)
     ])
     ∙ c.loop-e.invariant
 

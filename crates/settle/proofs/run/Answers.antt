@@ -21,8 +21,8 @@ loop-range-preserved g c =
     c.args.states.now c.loop_range.states c.pass.new.states c.loop_range.passes c.pass.result
     c.pass.ensures.after c.pass.ensures.changed c.loop_range.invariant c.loop-range-test.true (loop-range-smaller g c)
 
-pub overflow-add-passes : goal.overflow-add-passes
-overflow-add-passes g c =
+pub overflow_add-passes : goal.overflow_add-passes
+overflow_add-passes g c =
     let laws = g.met.K.Facts.lawful c.args.geometry c.requires.taken in
     let few = c.loop_range.invariant.few in
     let low = ranks_fit laws c.args.states.now (length c.args.blocks.now) c.requires.room in

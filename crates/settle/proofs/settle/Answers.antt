@@ -10,7 +10,7 @@ returns g c =
     let k = g.K.Facts.kind c.args.geometry in
     let r = region_of c.args.blocks.now c.args.edges.now c.args.range in
     let taken : g.K.Facts.takes c.args.geometry ≡ true = sym c.takes.ensures ∙ c.if-not-takes.false in
-    let can : settleable r (length c.args.states.now) ≡ true = sym c.can-settle.ensures ∙ c.if-not-can-settle.false in
+    let can : settleable r (length c.args.states.now) ≡ true = sym c.can_settle.ensures ∙ c.if-not-can_settle.false in
     let good = accepted r (length c.args.states.now) can in
     let begins : c.begin.new.states ≡ set (replicate (length (take (length c.args.blocks.now) c.args.states.now)) k.nothing_yet) c.args.range.header c.args.entry =
     search rules in

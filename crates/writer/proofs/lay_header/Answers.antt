@@ -5,4 +5,4 @@ use Rattle.writer.proofs.lay_header.Goals as goal
 pub returns : goal.returns
 returns c =
     lays_same (simp append_assoc)
-    (lays_then (lays_then (lays_then (lays_then c.lay-line-end.ensures c.lay-line-end-2.ensures) c.lay-line-end-3.ensures) c.lay-line-end-4.ensures) c.lay-line.ensures)
+    (lays_then (lays_then (lays_then (lays_then c.lay_line-end.ensures c.lay_line-end-2.ensures) c.lay_line-end-3.ensures) c.lay_line-end-4.ensures) c.lay_line.ensures)

@@ -18,6 +18,6 @@ lent_parts c bs ls es b l e = rw (b, l, e) (record_parts c)
 pub returns : goal.returns
 returns c =
     lays_same
-    (lent_parts (contents c.args.record.now) c.as-slice.result.now c.as-slice-2.result.now c.as-slice-3.result.now
-    c.as-slice.ensures.value c.as-slice-2.ensures.value c.as-slice-3.ensures.value)
-    (lays_then c.lay-header-end.ensures (lays_then c.lay-list-end.ensures (lays_then c.lay-list-end-2.ensures c.lay-list.ensures)))
+    (lent_parts (contents c.args.record.now) c.as_slice.result.now c.as_slice-2.result.now c.as_slice-3.result.now
+    c.as_slice.ensures.value c.as_slice-2.ensures.value c.as_slice-3.ensures.value)
+    (lays_then c.lay_header-end.ensures (lays_then c.lay_list-end.ensures (lays_then c.lay_list-end-2.ensures c.lay_list.ensures)))

@@ -12,10 +12,10 @@ small r = omega (arith, text_bound (contents r) r.ranges)
 
 pub returns-then-out-needed : goal.returns-then-out-needed
 returns-then-out-needed c =
-    refused (record_text (contents c.args.record.now)) c.args.out.now _ c.lay-record-needed.result
-    (small c.args.record.now) c.lay-record-needed.ensures c.if-out-needed.true
+    refused (record_text (contents c.args.record.now)) c.args.out.now _ c.lay_record-needed.result
+    (small c.args.record.now) c.lay_record-needed.ensures c.if-out-needed.true
 
 pub returns : goal.returns
 returns c =
-    wrote (record_text (contents c.args.record.now)) c.args.out.now _ _ c.lay-record-needed.result _
-    (small c.args.record.now) c.lay-record-needed.ensures c.if-out-needed.false c.lay-record.ensures
+    wrote (record_text (contents c.args.record.now)) c.args.out.now _ _ c.lay_record-needed.result _
+    (small c.args.record.now) c.lay_record-needed.ensures c.if-out-needed.false c.lay_record.ensures

@@ -9,8 +9,8 @@ loop-fetch-preserved g c t p =
     let few : c.loop-fetch.fetch < c.args.block.now.fetches =
     elim c.if-count-block.branch [ then-count-block w ↦ omega (arith, w.fetches-is) | else-count-block w ↦ omega (arith, w.fetches-is) ] in
     fetch_more (g.Self.CacheState.fetched c.args.geometry) (fetch_line c.args.geometry c.args.block.now) c.loop-fetch.fetch
-    c.program-line.result c.args.self.now c.loop-fetch.state c.fetch-state.result (c.fetch-state.ensures t)
-    (line_fits c.args.geometry c.args.block.now c.loop-fetch.fetch c.program-line.result c.program-line.ensures p few)
+    c.program_line.result c.args.self.now c.loop-fetch.state c.fetch-state.result (c.fetch-state.ensures t)
+    (line_fits c.args.geometry c.args.block.now c.loop-fetch.fetch c.program_line.result c.program_line.ensures p few)
     (c.loop-fetch.invariant t p)
 
 pub returns : goal.returns

@@ -14,7 +14,7 @@ loop-b-preserved g c =
     let inside : b < length k.blocks = omega (arith, c.loop-b-test.true, c.requires.long) in
     let read = get_or_read k.blocks b c.index.result.now inside c.index.ensures (record { address = 0; fetches = 0; cycles = 0 }) in
     let here = price_is (λ x. of x (get_or c.args.paying.now b 0)) g.T.Tally.size c.index.result.now (block_at k.blocks b) c.block.result read (c.requires.small b inside) c.block.ensures in
-    values_more (λ n. of (block_at k.blocks n) (get_or c.args.paying.now n 0)) b (vec_items c.loop-b.costs) (vec_items c.push.new.self) c.block.result c.loop-b.invariant here c.in-ok-push.ensures.items
+    values_more (λ n. of (block_at k.blocks n) (get_or c.args.paying.now n 0)) b (vec_items c.loop-b.costs) (vec_items c.push.new.self) c.block.result c.loop-b.invariant here c.in_ok-push.ensures.items
 
 pub returns : goal.returns
 returns g c =

@@ -9,7 +9,7 @@ loop-i-preserved g c =
     let k = task_contents c.args.task.now in
     let i = c.loop-i.i in
     let inside : i < length (all_loops k) = omega (arith, c.loop-i-test.true, c.requires.long) in
-    values_more (λ n. g.T.Price.of_stay k.header (get_or c.args.lines.now n 0)) i (vec_items c.loop-i.costs) (vec_items c.push.new.self) c.stay.result c.loop-i.invariant (c.stay.ensures (c.requires.small i inside)) c.in-ok-push.ensures.items
+    values_more (λ n. g.T.Price.of_stay k.header (get_or c.args.lines.now n 0)) i (vec_items c.loop-i.costs) (vec_items c.push.new.self) c.stay.result c.loop-i.invariant (c.stay.ensures (c.requires.small i inside)) c.in_ok-push.ensures.items
 
 pub returns : goal.returns
 returns g c =

@@ -15,32 +15,32 @@ use Rattle.figure.proofs.Levels.{above_from, above_in, above_least}
 use Rattle.figure.proofs.Places.{block_range, depth_is, depth_small, rows_long, charged_are, level_is}
 use Rattle.figure.proofs.counts.add_charged.Goals as goal
 
-pub overflow-add-depth : goal.overflow-add-depth
-overflow-add-depth c =
+pub overflow_add-depth : goal.overflow_add-depth
+overflow_add-depth c =
     let task = c.args.task.now in
-    let same = ap (λ ls. length (around ls c.args.b)) c.as-slice-loops.ensures.value in
-    omega (arith, c.loops-around-depth.ensures, depth_small (task_contents task) c.args.b c.requires.block task.«record».ranges task.sound)
+    let same = ap (λ ls. length (around ls c.args.b)) c.as_slice-loops.ensures.value in
+    omega (arith, c.loops_around-depth.ensures, depth_small (task_contents task) c.args.b c.requires.block task.«record».ranges task.sound)
 
-pub add-block-requires : goal.add-block-requires
-add-block-requires c =
+pub add_block-requires : goal.add_block-requires
+add_block-requires c =
     let task = c.args.task.now in
     let k = task_contents task in
     let b = c.args.b in
     let format = task.«record».ranges in
-    let same = ap (λ ls. length (around ls b)) c.as-slice-loops.ensures.value in
+    let same = ap (λ ls. length (around ls b)) c.as_slice-loops.ensures.value in
     let deep = depth_small k b c.requires.block format task.sound in
     let range = block_range k b c.requires.block format in
     record {
       outer =
-          let level = c.loops-around-level.ensures ∙ level_is k b c.args.i c.as-slice-loops.result.now c.as-slice-loops.ensures.value in
+          let level = c.loops_around-level.ensures ∙ level_is k b c.args.i c.as_slice-loops.result.now c.as_slice-loops.ensures.value in
           let up = above_in (all_loops k) b c.args.i c.requires.number c.requires.inside in
           let least = above_least (all_loops k) b c.args.i (omega (arith, c.requires.number)) in
           let whole = depth_is k b c.requires.block format in
-          omega (arith, c.loops-around-depth.ensures);
-      deep = omega (arith, c.loops-around-depth.ensures);
+          omega (arith, c.loops_around-depth.ensures);
+      deep = omega (arith, c.loops_around-depth.ensures);
       short =
           let long = rows_long k b c.requires.block c.args.table.now c.requires.long in
-          omega (arith, ap length c.rows-of-rows.ensures, range.fetches);
+          omega (arith, ap length c.rows_of-rows.ensures, range.fetches);
       low =
           let read = get_or_read k.blocks b c.index.result.now c.requires.block c.index.ensures (record { address = 0; fetches = 0; cycles = 0 }) in
           omega (arith, ap (λ (x : Block). x.address) read, range.address);
@@ -51,13 +51,13 @@ returns c =
     let task = c.args.task.now in
     let k = task_contents task in
     let b = c.args.b in
-    let level = c.loops-around-level.ensures ∙ level_is k b c.args.i c.as-slice-loops.result.now c.as-slice-loops.ensures.value in
-    let depth : c.loops-around-depth.result + 1 ≡ above_from (all_loops k) b 0 =
-    let same = ap (λ ls. length (around ls b)) c.as-slice-loops.ensures.value in
-    omega (arith, c.loops-around-depth.ensures, depth_is k b c.requires.block task.«record».ranges) in
+    let level = c.loops_around-level.ensures ∙ level_is k b c.args.i c.as_slice-loops.result.now c.as_slice-loops.ensures.value in
+    let depth : c.loops_around-depth.result + 1 ≡ above_from (all_loops k) b 0 =
+    let same = ap (λ ls. length (around ls b)) c.as_slice-loops.ensures.value in
+    omega (arith, c.loops_around-depth.ensures, depth_is k b c.requires.block task.«record».ranges) in
     let lines : Block → List (List Category) → List ℕ =
-    λ x rows. map (fetch_line k.header.geometry x) (passing (λ j. charged_row c.loops-around-level.result (c.loops-around-depth.result + 1) (get_or rows j [])) (range_with_len 0 (length rows))) in
-    let are : lines c.index.result.now c.rows-of-rows.result.now ≡ charged_lines k (mark_at k c.args.table.now) c.args.i (b ∷ []) =
-    ap (λ x. lines x c.rows-of-rows.result.now) (get_or_read k.blocks b c.index.result.now c.requires.block c.index.ensures (record { address = 0; fetches = 0; cycles = 0 })) ∙ ap (lines (block_at k.blocks b)) c.rows-of-rows.ensures
-    ∙ charged_are k b c.requires.block c.args.table.now c.requires.long c.args.i c.loops-around-level.result (c.loops-around-depth.result + 1) c.requires.number c.requires.inside level depth in
-    IfOk-weaker c.add-block.result _ _ (λ _ e. e ∙ ap (distinct (vec_items c.args.lines.now)) are) c.add-block.ensures
+    λ x rows. map (fetch_line k.header.geometry x) (passing (λ j. charged_row c.loops_around-level.result (c.loops_around-depth.result + 1) (get_or rows j [])) (range_with_len 0 (length rows))) in
+    let are : lines c.index.result.now c.rows_of-rows.result.now ≡ charged_lines k (mark_at k c.args.table.now) c.args.i (b ∷ []) =
+    ap (λ x. lines x c.rows_of-rows.result.now) (get_or_read k.blocks b c.index.result.now c.requires.block c.index.ensures (record { address = 0; fetches = 0; cycles = 0 })) ∙ ap (lines (block_at k.blocks b)) c.rows_of-rows.ensures
+    ∙ charged_are k b c.requires.block c.args.table.now c.requires.long c.args.i c.loops_around-level.result (c.loops_around-depth.result + 1) c.requires.number c.requires.inside level depth in
+    IfOk-weaker c.add_block.result _ _ (λ _ e. e ∙ ap (distinct (vec_items c.args.lines.now)) are) c.add_block.ensures

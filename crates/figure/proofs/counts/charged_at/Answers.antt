@@ -10,25 +10,25 @@ use Rattle.marks.specs.Table.{mark_at}
 use Rattle.figure.proofs.Places.{last_inside, filled, lines_none, lines_more, lines-all}
 use Rattle.figure.proofs.counts.charged_at.Goals as goal
 
-pub overflow-add-end : goal.overflow-add-end
-overflow-add-end c =
+pub overflow_add-end : goal.overflow_add-end
+overflow_add-end c =
     let task = c.args.task.now in
-    let same = ap (λ (l : Loop). l.last) c.loop-of-l.ensures in
+    let same = ap (λ (l : Loop). l.last) c.loop_of-l.ensures in
     omega (arith, last_inside (task_contents task) task.«record».ranges task.sound c.args.i c.requires.number, (ranges (task_contents task) task.«record».ranges).few_blocks)
 
 pub loop-b-init : goal.loop-b-init
 loop-b-init c =
     let k = task_contents c.args.task.now in
-    let same : c.loop-of-l.result.header ≡ (loop_at (all_loops k) c.args.i).header = ap (λ (l : Loop). l.header) c.loop-of-l.ensures in
-    c.new-lines.ensures.items ∙ lines_none k (mark_at k c.args.table.now) c.args.i (loop_at (all_loops k) c.args.i).header c.loop-of-l.result.header same
+    let same : c.loop_of-l.result.header ≡ (loop_at (all_loops k) c.args.i).header = ap (λ (l : Loop). l.header) c.loop_of-l.ensures in
+    c.new-lines.ensures.items ∙ lines_none k (mark_at k c.args.table.now) c.args.i (loop_at (all_loops k) c.args.i).header c.loop_of-l.result.header same
 
-pub add-charged-requires : goal.add-charged-requires
-add-charged-requires c =
+pub add_charged-requires : goal.add_charged-requires
+add_charged-requires c =
     let task = c.args.task.now in
     let k = task_contents task in
     let l = loop_at (all_loops k) c.args.i in
-    let first = ap (λ (l : Loop). l.header) c.loop-of-l.ensures in
-    let final = ap (λ (l : Loop). l.last) c.loop-of-l.ensures in
+    let first = ap (λ (l : Loop). l.header) c.loop_of-l.ensures in
+    let final = ap (λ (l : Loop). l.last) c.loop_of-l.ensures in
     let end : c.loop-b.b ≤ l.last = omega (arith, c.loop-b-test.true) in
     record {
       number = c.requires.number;
@@ -40,15 +40,15 @@ add-charged-requires c =
 pub loop-b-preserved : goal.loop-b-preserved
 loop-b-preserved c =
     let k = task_contents c.args.task.now in
-    let first = ap (λ (l : Loop). l.header) c.loop-of-l.ensures in
-    lines_more k (mark_at k c.args.table.now) c.args.i (loop_at (all_loops k) c.args.i).header c.loop-b.b (vec_items c.loop-b.lines) (vec_items c.add-charged.new.lines) (omega (arith, c.loop-b.auto.b)) c.loop-b.invariant c.in-ok-add-charged.ensures
+    let first = ap (λ (l : Loop). l.header) c.loop_of-l.ensures in
+    lines_more k (mark_at k c.args.table.now) c.args.i (loop_at (all_loops k) c.args.i).header c.loop-b.b (vec_items c.loop-b.lines) (vec_items c.add_charged.new.lines) (omega (arith, c.loop-b.auto.b)) c.loop-b.invariant c.in_ok-add_charged.ensures
 
 pub overflow-cast-result : goal.overflow-cast-result
 overflow-cast-result c =
     let task = c.args.task.now in
     let k = task_contents task in
     let some = filled k task.«record».ranges task.sound c.args.i c.requires.number in
-    let all = lines-all k (mark_at k c.args.table.now) c.args.i c.loop-b.b c.loop-of-l.result (vec_items c.loop-b.lines) c.loop-of-l.ensures some c.loop-b-test.false c.loop-b.auto.b-end c.loop-b.invariant in
+    let all = lines-all k (mark_at k c.args.table.now) c.args.i c.loop-b.b c.loop_of-l.result (vec_items c.loop-b.lines) c.loop_of-l.ensures some c.loop-b-test.false c.loop-b.auto.b-end c.loop-b.invariant in
     omega (arith, ap length all, c.len.ensures, c.loop-b.lines.ok.0, charged_small k task.«record».ranges (mark_at k c.args.table.now) c.args.i c.requires.number)
 
 pub returns : goal.returns
@@ -56,5 +56,5 @@ returns c =
     let task = c.args.task.now in
     let k = task_contents task in
     let some = filled k task.«record».ranges task.sound c.args.i c.requires.number in
-    let all = lines-all k (mark_at k c.args.table.now) c.args.i c.loop-b.b c.loop-of-l.result (vec_items c.loop-b.lines) c.loop-of-l.ensures some c.loop-b-test.false c.loop-b.auto.b-end c.loop-b.invariant in
+    let all = lines-all k (mark_at k c.args.table.now) c.args.i c.loop-b.b c.loop_of-l.result (vec_items c.loop-b.lines) c.loop_of-l.ensures some c.loop-b-test.false c.loop-b.auto.b-end c.loop-b.invariant in
     c.len.ensures ∙ c.loop-b.lines.ok.0 ∙ ap length all

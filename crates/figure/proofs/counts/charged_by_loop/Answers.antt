@@ -10,7 +10,7 @@ pub loop-i-preserved : goal.loop-i-preserved
 loop-i-preserved c =
     let k = task_contents c.args.task.now in
     let f : ℕ → ℕ = λ i. length (charged_at k (mark_at k c.args.table.now) i) in
-    values_more f c.loop-i.i (vec_items c.loop-i.counts) (vec_items c.push.new.self) c.in-ok-charged-at.field-0 c.loop-i.invariant c.in-ok-charged-at.ensures c.in-ok-push.ensures.items
+    values_more f c.loop-i.i (vec_items c.loop-i.counts) (vec_items c.push.new.self) c.in_ok-charged_at.field-0 c.loop-i.invariant c.in_ok-charged_at.ensures c.in_ok-push.ensures.items
 
 pub returns : goal.returns
 returns c =

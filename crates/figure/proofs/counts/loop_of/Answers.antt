@@ -6,8 +6,8 @@ use Rattle.task.specs.View.{task_contents}
 use Rattle.walks.specs.Walk.{all_loops}
 use Rattle.figure.proofs.counts.loop_of.Goals as goal
 
-pub overflow-sub-result : goal.overflow-sub-result
-overflow-sub-result c = let task = c.args.task.now in omega (arith, c.len.ensures, task.«record».blocks.ok.0, (ranges (task_contents task) task.«record».ranges).some)
+pub overflow_sub-result : goal.overflow_sub-result
+overflow_sub-result c = let task = c.args.task.now in omega (arith, c.len.ensures, task.«record».blocks.ok.0, (ranges (task_contents task) task.«record».ranges).some)
 
 pub returns-else-i-eq0 : goal.returns-else-i-eq0
 returns-else-i-eq0 c =

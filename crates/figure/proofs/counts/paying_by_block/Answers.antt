@@ -10,7 +10,7 @@ pub loop-b-preserved : goal.loop-b-preserved
 loop-b-preserved c =
     let k = task_contents c.args.task.now in
     let f : ℕ → ℕ = paying k (mark_at k c.args.table.now) (pays c.args.later) in
-    values_more f c.loop-b.b (vec_items c.loop-b.counts) (vec_items c.push.new.self) c.paying-in.result c.loop-b.invariant c.paying-in.ensures c.in-ok-push.ensures.items
+    values_more f c.loop-b.b (vec_items c.loop-b.counts) (vec_items c.push.new.self) c.paying_in.result c.loop-b.invariant c.paying_in.ensures c.in_ok-push.ensures.items
 
 pub returns : goal.returns
 returns c =

@@ -8,9 +8,9 @@ pub paying-requires : goal.paying-requires
 paying-requires c =
     let task = c.args.task.now in
     let long = rows_long (task_contents task) c.args.b c.requires.block c.args.table.now c.requires.long in
-    omega (arith, ap length c.rows-of.ensures, (block_range (task_contents task) c.args.b c.requires.block task.«record».ranges).fetches)
+    omega (arith, ap length c.rows_of.ensures, (block_range (task_contents task) c.args.b c.requires.block task.«record».ranges).fetches)
 
 pub returns : goal.returns
 returns c =
     let task = c.args.task.now in
-    c.paying.ensures ∙ ap (paying_rows c.args.later) c.rows-of.ensures ∙ paying_is (task_contents task) c.args.b c.requires.block c.args.table.now c.requires.long c.args.later
+    c.paying.ensures ∙ ap (paying_rows c.args.later) c.rows_of.ensures ∙ paying_is (task_contents task) c.args.b c.requires.block c.args.table.now c.requires.long c.args.later

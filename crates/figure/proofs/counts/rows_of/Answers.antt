@@ -4,32 +4,32 @@ use Rattle.task.specs.View.{task_contents}
 use Rattle.figure.proofs.Places.{few_rows, rows_end, rows_are}
 use Rattle.figure.proofs.counts.rows_of.Goals as goal
 
-pub first-row-first-requires : goal.first-row-first-requires
-first-row-first-requires c =
+pub first_row-first-requires : goal.first_row-first-requires
+first_row-first-requires c =
     let task = c.args.task.now in
-    let same = c.as-slice-blocks.ensures.value in
+    let same = c.as_slice-blocks.ensures.value in
     (omega (arith, ap length same, c.requires.block), omega (arith, ap total_fetches same, few_rows (task_contents task) task.sound))
 
-pub overflow-add-result : goal.overflow-add-result
-overflow-add-result c =
+pub overflow_add-result : goal.overflow_add-result
+overflow_add-result c =
     let task = c.args.task.now in
-    let end = rows_end (task_contents task) c.args.b c.requires.block c.as-slice-blocks.result.now c.first-row-first.result c.as-slice-blocks.ensures.value c.first-row-first.ensures in
+    let end = rows_end (task_contents task) c.args.b c.requires.block c.as_slice-blocks.result.now c.first_row-first.result c.as_slice-blocks.ensures.value c.first_row-first.ensures in
     omega (arith, few_rows (task_contents task) task.sound)
 
 pub offset-bounds-table-first : goal.offset-bounds-table-first
 offset-bounds-table-first c =
     let task = c.args.task.now in
-    let end = rows_end (task_contents task) c.args.b c.requires.block c.as-slice-blocks.result.now c.first-row-first.result c.as-slice-blocks.ensures.value c.first-row-first.ensures in
+    let end = rows_end (task_contents task) c.args.b c.requires.block c.as_slice-blocks.result.now c.first_row-first.result c.as_slice-blocks.ensures.value c.first_row-first.ensures in
     omega (arith, few_rows (task_contents task) task.sound)
 
-pub slice-bounds-result-end : goal.slice-bounds-result-end
-slice-bounds-result-end c =
+pub slice_bounds-result-end : goal.slice_bounds-result-end
+slice_bounds-result-end c =
     let task = c.args.task.now in
-    let end = rows_end (task_contents task) c.args.b c.requires.block c.as-slice-blocks.result.now c.first-row-first.result c.as-slice-blocks.ensures.value c.first-row-first.ensures in
+    let end = rows_end (task_contents task) c.args.b c.requires.block c.as_slice-blocks.result.now c.first_row-first.result c.as_slice-blocks.ensures.value c.first_row-first.ensures in
     let long = c.requires.long in
     search rules
 
 pub returns : goal.returns
 returns c =
     let task = c.args.task.now in
-    rows_are (task_contents task) c.args.b c.requires.block c.args.table.now c.as-slice-blocks.result.now c.first-row-first.result c.as-slice-blocks.ensures.value c.first-row-first.ensures
+    rows_are (task_contents task) c.args.b c.requires.block c.args.table.now c.as_slice-blocks.result.now c.first_row-first.result c.as_slice-blocks.ensures.value c.first_row-first.ensures

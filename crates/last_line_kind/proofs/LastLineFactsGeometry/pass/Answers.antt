@@ -8,8 +8,8 @@ use Rattle.last_line_kind.proofs.LastLineFactsGeometry.pass.Goals as goal
 pub loop-fetch-preserved : goal.loop-fetch-preserved
 loop-fetch-preserved c t p =
     fetch_more last_fetched (fetch_line c.args.geometry c.args.block.now) c.loop-fetch.fetch
-    c.program-line.result c.args.self.now c.loop-fetch.state c.fetch-state.result (c.fetch-state.ensures t)
-    (line_fits c.args.geometry c.args.block.now c.loop-fetch.fetch c.program-line.result c.program-line.ensures p c.loop-fetch-test.true)
+    c.program_line.result c.args.self.now c.loop-fetch.state c.fetch-state.result (c.fetch-state.ensures t)
+    (line_fits c.args.geometry c.args.block.now c.loop-fetch.fetch c.program_line.result c.program_line.ensures p c.loop-fetch-test.true)
     (c.loop-fetch.invariant t p)
 
 pub returns : goal.returns

@@ -7,7 +7,7 @@ use Rattle.listing.proofs.Counted.{joined_count, categories_counted}
 use Rattle.listing.proofs.fetches.lay_categories.Goals as goal
 
 pub loop-level-init : goal.loop-level-init
-loop-level-init c = lays_none c.lay-category-end.result c.lay-category-end.new.out
+loop-level-init c = lays_none c.lay_category-end.result c.lay_category-end.new.out
 
 pub loop-level-preserved : goal.loop-level-preserved
 loop-level-preserved c =
@@ -15,9 +15,9 @@ loop-level-preserved c =
     let text : ℕ → List ℕ = λ k. 47 ∷ letters_of (place_at c.args.table.now c.args.row k) in
     let e : c.loop-level.level + 1 - 1 ≡ c.loop-level.level - 1 + 1 = omega arith in
     lays_same (ap (λ n. flat_map text (range_with_len 1 n)) e ∙ joined_count text 1 (i - 1) i (omega arith))
-    (lays_then c.loop-level.invariant (lays_then c.lay-bytes-end.ensures c.lay-category-end-in-loop-level.ensures))
+    (lays_then c.loop-level.invariant (lays_then c.lay_bytes-end.ensures c.lay_category-end-in-loop-level.ensures))
 
 pub returns : goal.returns
 returns c =
     lays_same (categories_counted (place_at c.args.table.now c.args.row) c.args.levels c.loop-level.level c.requires (omega arith))
-    (lays_then c.lay-category-end.ensures c.loop-level.invariant)
+    (lays_then c.lay_category-end.ensures c.loop-level.invariant)

@@ -5,4 +5,4 @@ use Rattle.listing.proofs.fetches.lay_category.Goals as goal
 
 pub returns : goal.returns
 returns c =
-    lays_same (sym (c.as-bytes.ensures.value ∙ c.letters.ensures ∙ ap letters_of c.category-at-category.ensures)) c.lay-bytes.ensures
+    lays_same (sym (c.as_bytes.ensures.value ∙ c.letters.ensures ∙ ap letters_of c.category_at-category.ensures)) c.lay_bytes.ensures

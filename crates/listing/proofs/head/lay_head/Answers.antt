@@ -32,6 +32,6 @@ parts c f word load w l =
 pub returns : goal.returns
 returns c =
     let t = task_contents c.args.task.now in
-    lays_same (parts t (shown t c.args.found.now) c.as-bytes.result.now c.load-of.result (c.as-bytes.ensures.value ∙ c.fits.ensures) c.load-of.ensures)
-    (lays_then c.lay-line-end.ensures (lays_then c.lay-bytes-end.ensures (lays_then c.lay-bytes-end-2.ensures (lays_then c.lay-bytes-end-3.ensures
-    (lays_then c.lay-line-end-2.ensures (lays_then c.lay-line-end-3.ensures (lays_then c.lay-line-end-4.ensures c.lay-line.ensures)))))))
+    lays_same (parts t (shown t c.args.found.now) c.as_bytes.result.now c.load_of.result (c.as_bytes.ensures.value ∙ c.fits.ensures) c.load_of.ensures)
+    (lays_then c.lay_line-end.ensures (lays_then c.lay_bytes-end.ensures (lays_then c.lay_bytes-end-2.ensures (lays_then c.lay_bytes-end-3.ensures
+    (lays_then c.lay_line-end-2.ensures (lays_then c.lay_line-end-3.ensures (lays_then c.lay_line-end-4.ensures c.lay_line.ensures)))))))

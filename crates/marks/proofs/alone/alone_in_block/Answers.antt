@@ -14,14 +14,14 @@ loop-fetch-init c =
     ap (λ n. all_pass test (range_with_len 0 n)) e
     ∙ sym (pass-map (apart g c.args.line) (fetch_line g c.args.block.now) (range_with_len 0 c.args.block.now.fetches))
 
-pub returns-then-not-is-apart : goal.returns-then-not-is-apart
-returns-then-not-is-apart c =
+pub returns-then-not-is_apart : goal.returns-then-not-is_apart
+returns-then-not-is_apart c =
     let g = c.args.geometry in
     let j = c.loop-fetch.fetch in
     let test = λ (i : ℕ). apart g c.args.line (fetch_line g c.args.block.now i) in
-    let line = line_fits g c.args.block.now j c.program-line.result c.program-line.ensures c.requires c.loop-fetch-test.true in
+    let line = line_fits g c.args.block.now j c.program_line.result c.program_line.ensures c.requires c.loop-fetch-test.true in
     sym (one_fails test j c.args.block.now.fetches c.loop-fetch-test.true
-    (sym (c.is-apart.ensures ∙ ap (apart g c.args.line) line) ∙ c.if-not-is-apart.true))
+    (sym (c.is_apart.ensures ∙ ap (apart g c.args.line) line) ∙ c.if-not-is_apart.true))
     ∙ c.loop-fetch.invariant
 
 pub loop-fetch-preserved : goal.loop-fetch-preserved
@@ -29,9 +29,9 @@ loop-fetch-preserved c =
     let g = c.args.geometry in
     let j = c.loop-fetch.fetch in
     let test = λ (i : ℕ). apart g c.args.line (fetch_line g c.args.block.now i) in
-    let line = line_fits g c.args.block.now j c.program-line.result c.program-line.ensures c.requires c.loop-fetch-test.true in
+    let line = line_fits g c.args.block.now j c.program_line.result c.program_line.ensures c.requires c.loop-fetch-test.true in
     rest_pass test j c.args.block.now.fetches c.loop-fetch-test.true
-    (sym (c.is-apart.ensures ∙ ap (apart g c.args.line) line) ∙ c.if-not-is-apart.false)
+    (sym (c.is_apart.ensures ∙ ap (apart g c.args.line) line) ∙ c.if-not-is_apart.false)
     ∙ c.loop-fetch.invariant
 
 pub returns : goal.returns

@@ -21,8 +21,8 @@ few c =
     let e = ap (λ (x : Block). x.fetches) (at c) in
     omega arith
 
-pub overflow-add-fetches : goal.overflow-add-fetches
-overflow-add-fetches c =
+pub overflow_add-fetches : goal.overflow_add-fetches
+overflow_add-fetches c =
     let f = few c in
     let n = (ranges (task_contents c.args.task.now) c.args.task.now.«record».ranges).few_blocks in
     let l = here c in

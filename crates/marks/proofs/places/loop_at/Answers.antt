@@ -10,7 +10,7 @@ use Rattle.marks.proofs.places.loop_at.Goals as goal
 
 pub returns-then-number-eq0 : goal.returns-then-number-eq0
 returns-then-number-eq0 c =
-    let e = c.task-loop.ensures in
+    let e = c.task_loop.ensures in
     let z : c.args.number ≡ 0 = c.if-number-eq0.true in
     let some = (ranges (task_contents c.args.task.now) c.args.task.now.«record».ranges).some in
     let h = ap (λ (l : Loop). l.header) e in

@@ -4,5 +4,5 @@ use Rattle.task.specs.View.{task_contents}
 use Rattle.marks.proofs.places.task_loop.Goals as goal
 
 -- A task has a block.
-pub overflow-sub-result : goal.overflow-sub-result
-overflow-sub-result c = let some = (ranges (task_contents c.args.task.now) c.args.task.now.«record».ranges).some in omega arith
+pub overflow_sub-result : goal.overflow_sub-result
+overflow_sub-result c = let some = (ranges (task_contents c.args.task.now) c.args.task.now.«record».ranges).some in omega arith

@@ -5,12 +5,12 @@ use Rattle.reader.proofs.line.choice_line.Goals as goal
 
 pub returns-then-not-contains : goal.returns-then-not-contains
 returns-then-not-contains c =
-    let g = c.in-ok-choice.ensures in
-    let e = chosen c.args.choices.now c.in-ok-choice.choice c.contains.result c.contains.ensures.cases in
-    (refl, outside c.args.key.now (one_of c.args.choices.now) c.in-ok-choice.choice c.args.text.now c.in-ok-choice.rest.now g.0 g.1 (e ∙ c.if-not-contains.true))
+    let g = c.in_ok-choice.ensures in
+    let e = chosen c.args.choices.now c.in_ok-choice.choice c.contains.result c.contains.ensures.cases in
+    (refl, outside c.args.key.now (one_of c.args.choices.now) c.in_ok-choice.choice c.args.text.now c.in_ok-choice.rest.now g.0 g.1 (e ∙ c.if-not-contains.true))
 
 pub returns : goal.returns
 returns c =
-    let g = c.in-ok-choice.ensures in
-    let e = chosen c.args.choices.now c.in-ok-choice.choice c.contains.result c.contains.ensures.cases in
-    (within c.args.key.now (one_of c.args.choices.now) c.in-ok-choice.choice g.0 (e ∙ c.if-not-contains.false), g.1)
+    let g = c.in_ok-choice.ensures in
+    let e = chosen c.args.choices.now c.in_ok-choice.choice c.contains.result c.contains.ensures.cases in
+    (within c.args.key.now (one_of c.args.choices.now) c.in_ok-choice.choice g.0 (e ∙ c.if-not-contains.false), g.1)

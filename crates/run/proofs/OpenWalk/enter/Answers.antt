@@ -12,8 +12,8 @@ use Rattle.facts.proofs.Space.{block_placed}
 use Rattle.run.proofs.Entering.{block_read, entered_is}
 use Rattle.run.proofs.OpenWalk.enter.Goals as goal
 
-pub fetch-block-misses-requires : goal.fetch-block-misses-requires
-fetch-block-misses-requires c =
+pub fetch_block-misses-requires : goal.fetch_block-misses-requires
+fetch_block-misses-requires c =
     let t = c.args.task.now in
     ap placed (block_read (task_contents t) c.args.block c.index.result.now c.requires c.index.ensures)
     ∙ block_placed (task_contents t) t.sound c.args.block c.requires
@@ -34,18 +34,18 @@ returns c fits free =
     let b = c.args.block in
     let block = c.index.result.now in
     let ls = all_loops (task_contents t) in
-    let cache = c.fetch-block-misses.new.cache in
-    let rounds = c.enter-rounds.new.rounds in
-    let kept = with_items_is w.cache cache (omega (arith, c.fetch-block-misses.auto.cache, c.deref-mut.ensures.len)) in
-    let long = with_items_is w.rounds rounds (omega (arith, c.enter-rounds.auto.rounds, c.deref-mut-2.ensures.len)) in
-    entered_is (task_contents t) b (run_of w) block c.fetch-block-misses.result c.entry_cycles_lem.result _
+    let cache = c.fetch_block-misses.new.cache in
+    let rounds = c.enter_rounds.new.rounds in
+    let kept = with_items_is w.cache cache (omega (arith, c.fetch_block-misses.auto.cache, c.deref_mut.ensures.len)) in
+    let long = with_items_is w.rounds rounds (omega (arith, c.enter_rounds.auto.rounds, c.deref_mut-2.ensures.len)) in
+    entered_is (task_contents t) b (run_of w) block c.fetch_block-misses.result c.entry_cycles_lem.result _
     (block_read (task_contents t) b block c.requires c.index.ensures) fits (record {
       here = refl;
-      held = kept ∙ c.fetch-block-misses.ensures.cache ∙ ap (fetch_all (fetch_cache g) (fetch_lines g block)) c.deref-mut.ensures.value;
-      stays = long ∙ subst (λ rs. length rs ≡ length ls → (SpentOf ls rs b → ⊥) → rounds ≡ entered_rounds ls b rs) c.deref-mut-2.ensures.value c.enter-rounds.ensures fits.long free;
-      few = c.fetch-block-misses.ensures.misses ∙ ap (misses_of g (fetch_lines g block)) c.deref-mut.ensures.value;
+      held = kept ∙ c.fetch_block-misses.ensures.cache ∙ ap (fetch_all (fetch_cache g) (fetch_lines g block)) c.deref_mut.ensures.value;
+      stays = long ∙ subst (λ rs. length rs ≡ length ls → (SpentOf ls rs b → ⊥) → rounds ≡ entered_rounds ls b rs) c.deref_mut-2.ensures.value c.enter_rounds.ensures fits.long free;
+      few = c.fetch_block-misses.ensures.misses ∙ ap (misses_of g (fetch_lines g block)) c.deref_mut.ensures.value;
       price = c.entry_cycles_lem.ensures;
-      cycles = c.saturating-add-self.ensures;
-      misses = c.saturating-add-self-2.ensures;
-      fetches = c.saturating-add-self-3.ensures;
+      cycles = c.saturating_add-self.ensures;
+      misses = c.saturating_add-self-2.ensures;
+      fetches = c.saturating_add-self-3.ensures;
     })

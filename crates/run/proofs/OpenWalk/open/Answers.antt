@@ -12,6 +12,6 @@ pub returns : goal.returns
 returns c =
     let t = c.args.task.now in
     first_run (task_contents t) t.«record».ranges c.args.cache.now _ (run_of c.enter.new.self)
-    (fresh_is (task_contents t) t.«record».ranges c.args.cache.now (vec_items c.in-ok-from-slice.field-0) (vec_items c.in-ok-no-stays.field-0) (c.len.result + 1)
-    c.in-ok-from-slice.ensures.items c.in-ok-no-stays.ensures (omega (arith, c.len.ensures)))
+    (fresh_is (task_contents t) t.«record».ranges c.args.cache.now (vec_items c.in_ok-from_slice.field-0) (vec_items c.in_ok-no_stays.field-0) (c.len.result + 1)
+    c.in_ok-from_slice.ensures.items c.in_ok-no_stays.ensures (omega (arith, c.len.ensures)))
     c.enter.ensures

@@ -9,15 +9,15 @@ loop-fetch-preserved c =
     let g = c.args.geometry in
     let block = c.args.block.now in
     let n = c.loop-fetch.fetch in
-    let t = c.program-line.result in
+    let t = c.program_line.result in
     let was = c.args.cache.now in
     let cache = c.loop-fetch.cache in
-    let line = line_fits g block n t c.program-line.ensures c.requires c.loop-fetch-test.true in
+    let line = line_fits g block n t c.program_line.ensures c.requires c.loop-fetch-test.true in
     let one = missed_once g t cache in
     let more = misses_more g (fetch_line g block) n t was cache line c.loop-fetch.invariant.2 in
-    let count = c.fetch-line-misses.ensures.misses in
+    let count = c.fetch_line-misses.ensures.misses in
     let so_far = c.loop-fetch.invariant.1 in (
       omega arith,
       omega arith,
-      fetch_more (fetch_cache g) (fetch_line g block) n t was cache c.fetch-line-misses.new.cache c.fetch-line-misses.ensures.cache line c.loop-fetch.invariant.2,
+      fetch_more (fetch_cache g) (fetch_line g block) n t was cache c.fetch_line-misses.new.cache c.fetch_line-misses.ensures.cache line c.loop-fetch.invariant.2,
     )

@@ -8,8 +8,8 @@ pub loop-i-preserved : goal.loop-i-preserved
 loop-i-preserved c long free =
     let ls = all_loops (task_contents c.args.task.now) in
     subst (CountedTo c.args.b ls c.args.rounds.now (c.loop-i.i + 1)) (sym c.put.ensures)
-    (counted_next c.args.b ls c.args.rounds.now c.loop-i.i c.next-rounds-next.result c.read-or.result c.loop-i.rounds c.loop-at.result (c.loop-i.invariant long free)
-    (omega arith) (omega arith) free c.loop-at.ensures.range c.read-or.ensures c.next-rounds-next.ensures)
+    (counted_next c.args.b ls c.args.rounds.now c.loop-i.i c.next_rounds-next.result c.read_or.result c.loop-i.rounds c.loop_at.result (c.loop-i.invariant long free)
+    (omega arith) (omega arith) free c.loop_at.ensures.range c.read_or.ensures c.next_rounds-next.ensures)
 
 pub returns : goal.returns
 returns c long free =

@@ -9,5 +9,5 @@ pub returns : goal.returns
 returns c =
     let t = c.args.task.now in
     let tells : Decides c.leads.result (Leads (task_contents c.args.task.now).edges c.args.p c.args.b) =
-    subst (λ (es : List Edge). Decides c.leads.result (Leads es c.args.p c.args.b)) c.as-slice.ensures.value c.leads.ensures in
+    subst (λ (es : List Edge). Decides c.leads.result (Leads es c.args.p c.args.b)) c.as_slice.ensures.value c.leads.ensures in
     record { edge = tells; block = λ e. (leads_below (task_contents t) t.«record».ranges c.args.p c.args.b (tells.0 e)).1 }

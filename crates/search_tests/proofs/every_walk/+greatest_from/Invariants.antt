@@ -1,4 +1,4 @@
 use Rattle.search_tests.proofs.every_walk.+greatest_from.Given as goal
 
-abbrev pub decreases-greatest-from : goal.decreases-greatest-from
-decreases-greatest-from l = l.steps
+abbrev pub decreases-greatest_from : goal.decreases-greatest_from
+decreases-greatest_from l = l.steps

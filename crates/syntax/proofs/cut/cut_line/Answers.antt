@@ -5,12 +5,12 @@ use Rattle.syntax.proofs.Cuts.{past_key}
 use Rattle.syntax.proofs.cut.cut_line.Goals as goal
 use Rattle.std.proofs.lemmas.Bool.Decides.{Decides-eqb}
 
-pub returns-in-err-rest : goal.returns-in-err-rest
-returns-in-err-rest c =
-    let h = MatchOption-at_none _ _ c.in-err-rest.was (strip_prefix_is Decides-eqb c.args.text.now c.args.key.now c.strip-prefix.result c.strip-prefix.ensures.cases) in
-    rw c.from-residual.ensures (λ body rest e. h (body ++ (10 ∷ rest)) e)
+pub returns-in_err-rest : goal.returns-in_err-rest
+returns-in_err-rest c =
+    let h = MatchOption-at_none _ _ c.in_err-rest.was (strip_prefix_is Decides-eqb c.args.text.now c.args.key.now c.strip_prefix.result c.strip_prefix.ensures.cases) in
+    rw c.from_residual.ensures (λ body rest e. h (body ++ (10 ∷ rest)) e)
 
 pub returns : goal.returns
 returns c =
-    let h = MatchOption-at_some _ _ _ c.in-ok-rest.was (strip_prefix_is Decides-eqb c.args.text.now c.args.key.now c.strip-prefix.result c.strip-prefix.ensures.cases) in
-    past_key c.split.result c.args.text.now c.args.key.now c.in-ok-rest.rest.now h c.split.ensures
+    let h = MatchOption-at_some _ _ _ c.in_ok-rest.was (strip_prefix_is Decides-eqb c.args.text.now c.args.key.now c.strip_prefix.result c.strip_prefix.ensures.cases) in
+    past_key c.split.result c.args.text.now c.args.key.now c.in_ok-rest.rest.now h c.split.ensures

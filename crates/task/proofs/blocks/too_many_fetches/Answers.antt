@@ -10,7 +10,7 @@ loop-block-preserved c =
     let step = at_drop_more total_fetches c.args.blocks.now i (record { address = 0; fetches = 0; cycles = 0 }) c.loop-block-test.true in
     omega arith
 
-pub returns-else-total-gt-MAX-FETCHES : goal.returns-else-total-gt-MAX-FETCHES
-returns-else-total-gt-MAX-FETCHES c =
+pub returns-else-total-gt-MAX_FETCHES : goal.returns-else-total-gt-MAX_FETCHES
+returns-else-total-gt-MAX_FETCHES c =
     let all = at_drop_all total_fetches c.args.blocks.now c.loop-block.block-index c.loop-block-test.false in
     λ k b. omega arith

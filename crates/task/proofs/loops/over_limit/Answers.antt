@@ -2,10 +2,10 @@ use Rattle.std.proofs.Common.{◌+◌, ◌*◌, sym, refl, arith}
 use Rattle.std.proofs.lemmas.Bool.{false≢true}
 use Rattle.task.proofs.Around.{limits_more_in, limits_more_out, limits-all, limits_grow}
 use Rattle.task.proofs.loops.over_limit.Goals as goal
-use Rattle.task.proofs.loops.over_limit.Goals.{then-within+else-product-gt-MAX-LIMIT-PRODUCT, else-within}
+use Rattle.task.proofs.loops.over_limit.Goals.{then-within+else-product-gt-MAX_LIMIT_PRODUCT, else-within}
 
-pub returns-then-product-gt-MAX-LIMIT-PRODUCT : goal.returns-then-product-gt-MAX-LIMIT-PRODUCT
-returns-then-product-gt-MAX-LIMIT-PRODUCT c =
+pub returns-then-product-gt-MAX_LIMIT_PRODUCT : goal.returns-then-product-gt-MAX_LIMIT_PRODUCT
+returns-then-product-gt-MAX_LIMIT_PRODUCT c =
     let ls = c.args.loops.now in
     let i = c.loop-l.l-index in
     let b = c.args.b in
@@ -23,7 +23,7 @@ loop-l-preserved c =
     let p = c.loop-l.product in
     let h = c.loop-l-test.true in
     elim c.if-within.branch [
-      | then-within+else-product-gt-MAX-LIMIT-PRODUCT w ↦ rw w.product-is (omega (arith, limits_more_in ls i b p w.from-product.result h (sym w.if-within.ensures.test) w.from-product.ensures))
+      | then-within+else-product-gt-MAX_LIMIT_PRODUCT w ↦ rw w.product-is (omega (arith, limits_more_in ls i b p w.from-product.result h (sym w.if-within.ensures.test) w.from-product.ensures))
       | else-within w ↦ rw w.product-is (omega (arith, limits_more_out ls i b p h (sym w.if-within.ensures.test)))
     ]
 

@@ -17,8 +17,8 @@ fits t i l is h =
 
 pub returns-then-number-eq0 : goal.returns-then-number-eq0
 returns-then-number-eq0 c =
-    let is = c.task-loop.ensures ∙ ap (loop_at (all_loops (task_contents c.args.task.now))) (sym c.if-number-eq0.true) in
-    record { range = is; blocks = fits c.args.task.now c.args.number c.task-loop.result is }
+    let is = c.task_loop.ensures ∙ ap (loop_at (all_loops (task_contents c.args.task.now))) (sym c.if-number-eq0.true) in
+    record { range = is; blocks = fits c.args.task.now c.args.number c.task_loop.result is }
 
 pub returns-then-number-len : goal.returns-then-number-len
 returns-then-number-len c =

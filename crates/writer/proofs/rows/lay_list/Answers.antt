@@ -7,7 +7,7 @@ use Rattle.writer.proofs.Parts.{rows_more, line-append}
 use Rattle.writer.proofs.rows.lay_list.Goals as goal
 
 pub loop-row-init : goal.loop-row-init
-loop-row-init g c = lays_none c.lay-line-end.result c.lay-line-end.new.out
+loop-row-init g c = lays_none c.lay_line-end.result c.lay_line-end.new.out
 
 pub loop-row-preserved : goal.loop-row-preserved
 loop-row-preserved g c =
@@ -21,4 +21,4 @@ returns g c =
     let all = take_all c.loop-row.row-index c.args.rows.now c.loop-row-test.false in
     lays_same
     (line-append c.args.heading.now count [] (text c.args.rows.now) ∙ ap (λ xs. line_text c.args.heading.now count [] ++ text xs) (sym all))
-    (lays_then c.lay-line-end.ensures c.loop-row.invariant)
+    (lays_then c.lay_line-end.ensures c.loop-row.invariant)

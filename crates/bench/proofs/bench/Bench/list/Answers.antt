@@ -9,21 +9,21 @@ use Rattle.bench.proofs.bench.Bench.list.Goals as goal
 
 pub returns-then-block-len : goal.returns-then-block-len
 returns-then-block-len c =
-    list_none (view c.args.self.now) c.args.out.now c.args.out.now _ c.in-ok-admit.field-0 c.args.block (task_contents c.examined-examined.result.now.task) c.examined-examined.ensures.task
-    c.in-ok-admit.ensures (omega arith) refl refl
+    list_none (view c.args.self.now) c.args.out.now c.args.out.now _ c.in_ok-admit.field-0 c.args.block (task_contents c.examined-examined.result.now.task) c.examined-examined.ensures.task
+    c.in_ok-admit.ensures (omega arith) refl refl
 
-pub returns-in-err-list : goal.returns-in-err-list
-returns-in-err-list c =
-    let p = err_from_is_err_and c.from-residual-in-err-list.result c.from-residual-in-err-list.ensures.1 in
+pub returns-in_err-list : goal.returns-in_err-list
+returns-in_err-list c =
+    let p = err_from_is_err_and c.from_residual-in_err-list.result c.from_residual-in_err-list.ensures.1 in
     let x = c.examined-examined.result.now in
     let t = task_contents x.task in
-    list_done (view c.args.self.now) c.args.out.now c.list.new.out c.from-residual-in-err-list.result c.in-ok-admit.field-0 c.args.block t (shown t x.found) c.examined-examined.ensures.task
-    c.examined-examined.ensures.found c.in-ok-admit.ensures (omega arith)
-    (delivered (block_text t (shown t x.found) c.args.block) c.args.out.now c.list.new.out c.from-residual-in-err-list.result c.in-err-list.field-0.0 (p.1 ∙ ap Err p.2) c.in-err-list.ensures)
+    list_done (view c.args.self.now) c.args.out.now c.list.new.out c.from_residual-in_err-list.result c.in_ok-admit.field-0 c.args.block t (shown t x.found) c.examined-examined.ensures.task
+    c.examined-examined.ensures.found c.in_ok-admit.ensures (omega arith)
+    (delivered (block_text t (shown t x.found) c.args.block) c.args.out.now c.list.new.out c.from_residual-in_err-list.result c.in_err-list.field-0.0 (p.1 ∙ ap Err p.2) c.in_err-list.ensures)
 
 pub returns : goal.returns
 returns c =
     let x = c.examined-examined.result.now in
     let t = task_contents x.task in
-    list_done (view c.args.self.now) c.args.out.now c.list.new.out (Ok c.in-ok-list.field-0) c.in-ok-admit.field-0 c.args.block t (shown t x.found) c.examined-examined.ensures.task
-    c.examined-examined.ensures.found c.in-ok-admit.ensures (omega arith) c.in-ok-list.ensures
+    list_done (view c.args.self.now) c.args.out.now c.list.new.out (Ok c.in_ok-list.field-0) c.in_ok-admit.field-0 c.args.block t (shown t x.found) c.examined-examined.ensures.task
+    c.examined-examined.ensures.found c.in_ok-admit.ensures (omega arith) c.in_ok-list.ensures

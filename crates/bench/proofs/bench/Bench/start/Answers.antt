@@ -9,5 +9,5 @@ use Rattle.bench.proofs.bench.Bench.start.Goals as goal
 pub of-requires : goal.of-requires
 of-requires c =
     let at = sym c.in-Examined.is ∙ sym c.replace.ensures.value ∙ c.in-Examined-replace.is in
-    opened (task_contents c.in-Examined.examined.task) (task_contents c.in-Examined-replace.examined.task) (run_of c.in-ok-walk.walk) c.args.cache.now (ap (λ s. task_of (stage_view s)) at)
-    c.in-Examined-replace.examined.task.«record».ranges c.in-ok-walk.ensures c.if-cache-slots.false
+    opened (task_contents c.in-Examined.examined.task) (task_contents c.in-Examined-replace.examined.task) (run_of c.in_ok-walk.walk) c.args.cache.now (ap (λ s. task_of (stage_view s)) at)
+    c.in-Examined-replace.examined.task.«record».ranges c.in_ok-walk.ensures c.if-cache-slots.false
