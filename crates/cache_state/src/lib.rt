@@ -55,10 +55,10 @@ pub trait CacheState: Facts<Geometry> {
 
 // Every kind's states allow the cache of each walk, whatever it was at the start: what they are sure of is resident.
 pub fn states_are_sound<K: CacheState>()
-    ensures { (g : Shape) → K.Facts.takes g ≡ true → Sound g (K.Facts.kind g) (fetched g) }
+    ensures { (g : Shape) → K.Facts.takes g ≡ true → Sound g (K.Facts.kind g) (K.fetched g) }
 {}
 
 // A fetch is sure in a settled state exactly when it is in the state of every walk.
 pub fn states_are_exact<K: CacheState>()
-    ensures { (g : Shape) → K.Facts.takes g ≡ true → Exactly g (K.Facts.kind g) (fetched g) }
+    ensures { (g : Shape) → K.Facts.takes g ≡ true → Exactly g (K.Facts.kind g) (K.fetched g) }
 {}

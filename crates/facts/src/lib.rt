@@ -49,10 +49,10 @@ pub trait Facts<G: Copy>: Copy {
 
 // Settling ends for every kind, within a pass for each rank that can fall.
 pub fn settling_ends<G: Copy, K: Facts<G>>()
-    ensures { (g : G) → takes g ≡ true → Ending (kind g) }
+    ensures { (g : G) → K.takes g ≡ true → Ending (K.kind g) }
 {}
 
 // The settled states of a task are sure of just what holds on every walk.
 pub fn settling_is_exact<G: Copy, K: Facts<G>>()
-    ensures { (g : G) → takes g ≡ true → Meaningful (kind g) }
+    ensures { (g : G) → K.takes g ≡ true → Meaningful (K.kind g) }
 {}

@@ -19,8 +19,8 @@ use task::Task;
 // The price of each block, by how many of its fetches pay.
 fn block_costs<T: Price>(heap: Global, task: &Task, paying: &[u32]) -> Result<Vec<T>, AllocError>
     requires long { length paying.now ≡ length (task_contents task.now).blocks }
-    requires small { (b : ℕ) → b < length (task_contents task.now).blocks → T.Tally.size (of_block (task_contents task.now).header (block_at (task_contents task.now).blocks b) (slice_index paying.now b)) < 2 ^ 32 }
-    ensures { IfOk result (λ v. v.items ≡ map (λ b. of_block (task_contents task.now).header (block_at (task_contents task.now).blocks b) (slice_index paying.now b)) (range_with_len 0 (length (task_contents task.now).blocks))) }
+    requires small { (b : ℕ) → b < length (task_contents task.now).blocks → T.Tally.size (T.of_block (task_contents task.now).header (block_at (task_contents task.now).blocks b) (slice_index paying.now b)) < 2 ^ 32 }
+    ensures { IfOk result (λ v. v.items ≡ map (λ b. T.of_block (task_contents task.now).header (block_at (task_contents task.now).blocks b) (slice_index paying.now b)) (range_with_len 0 (length (task_contents task.now).blocks))) }
 {
     let mut costs = Vec::new(heap);
     for b in 0..paying.len() {
@@ -32,8 +32,8 @@ fn block_costs<T: Price>(heap: Global, task: &Task, paying: &[u32]) -> Result<Ve
 // The price of a stay in each loop, by how many lines are charged there.
 fn stay_costs<T: Price>(heap: Global, task: &Task, lines: &[u32]) -> Result<Vec<T>, AllocError>
     requires long { length lines.now ≡ length (all_loops (task_contents task.now)) }
-    requires small { (i : ℕ) → i < length (all_loops (task_contents task.now)) → T.Tally.size (of_stay (task_contents task.now).header (slice_index lines.now i)) < 2 ^ 32 }
-    ensures { IfOk result (λ v. v.items ≡ map (λ i. of_stay (task_contents task.now).header (slice_index lines.now i)) (range_with_len 0 (length (all_loops (task_contents task.now))))) }
+    requires small { (i : ℕ) → i < length (all_loops (task_contents task.now)) → T.Tally.size (T.of_stay (task_contents task.now).header (slice_index lines.now i)) < 2 ^ 32 }
+    ensures { IfOk result (λ v. v.items ≡ map (λ i. T.of_stay (task_contents task.now).header (slice_index lines.now i)) (range_with_len 0 (length (all_loops (task_contents task.now))))) }
 {
     let mut costs = Vec::new(heap);
     for i in 0..lines.len() {
@@ -72,8 +72,8 @@ pub(crate) fn greatest<T: Price>(
     requires ones { length first.now ≡ length (task_contents task.now).blocks }
     requires twos { length later.now ≡ length (task_contents task.now).blocks }
     requires long { length lines.now ≡ length (all_loops (task_contents task.now)) }
-    requires cheap { Cheap T.Tally.size (priced of_block of_stay (task_contents task.now) first.now later.now lines.now) (task_contents task.now) }
-    ensures { IfOk result (λ t. t ≡ figure_of (ops_of T.Tally.none T.Tally.plus T.Tally.multiple T.Tally.below) (priced of_block of_stay (task_contents task.now) first.now later.now lines.now) (task_contents task.now)) }
+    requires cheap { Cheap T.Tally.size (priced T.of_block T.of_stay (task_contents task.now) first.now later.now lines.now) (task_contents task.now) }
+    ensures { IfOk result (λ t. t ≡ figure_of (ops_of T.Tally.none T.Tally.plus T.Tally.multiple T.Tally.below) (priced T.of_block T.of_stay (task_contents task.now) first.now later.now lines.now) (task_contents task.now)) }
 {
     let firsts = block_costs(heap, task, first)?;
     let laters = block_costs(heap, task, later)?;

@@ -34,8 +34,8 @@ pub struct Cell<T> {
 // The search finds the greatest charge, whatever the tally, and where every cost fits no sum of
 // it is large.
 pub fn finds<T: Tally>() -> u8
-    ensures greatest { Finds (ops_of none plus multiple below) }
-    ensures small { StaysSmall (ops_of none plus multiple below) size }
+    ensures greatest { Finds (ops_of T.none T.plus T.multiple T.below) }
+    ensures small { StaysSmall (ops_of T.none T.plus T.multiple T.below) T.size }
 {
     0
 }

@@ -147,10 +147,10 @@ fn mark_loop<K: CacheState>(
 
 // Settles the whole task at the front of `states`, and answers with the passes.
 fn settle_task<G: Copy, K: Facts<G>>(task: &Task, states: &mut [K], geometry: G) -> Option<u32>
-    requires taken { takes geometry ≡ true }
+    requires taken { K.takes geometry ≡ true }
     requires room { length (task_contents task.now).blocks ≤ length states.old }
-    ensures passes { result ≡ Some (task_states (kind geometry) (task_contents task.now)).1 }
-    ensures settled { Settled (task_contents task.now) states.new (task_states (kind geometry) (task_contents task.now)).0 }
+    ensures passes { result ≡ Some (task_states (K.kind geometry) (task_contents task.now)).1 }
+    ensures settled { Settled (task_contents task.now) states.new (task_states (K.kind geometry) (task_contents task.now)).0 }
 {
     let blocks = task.record.blocks.as_slice();
     let edges = task.record.edges.as_slice();

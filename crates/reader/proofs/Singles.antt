@@ -8,7 +8,7 @@ use Rattle.syntax.specs.Line.{Takes, OutOfRange, line_text}
 use Rattle.records.specs.Layout.{single, one_of}
 
 -- what `contains` answers
-pub chosen : (ys : List ℕ) (x : ℕ) (r : Bool) → IsAnyAnswer (λ y t. Decides t (y ≡ x)) ys r → one_of ys x ≡ r
+pub chosen : (ys : List ℕ) (x : ℕ) (r : Bool) → IsAnyAnswer (λ y t. eqb y x ≡ t) ys r → one_of ys x ≡ r
 chosen ys x r h =
     same_from_decides (one_of ys x) r
     (Decides-by_or (eqb x) (λ y. y ≡ x) (λ zs. one_of zs x) (λ y. Decides-like (eqb x y) sym sym (Decides-eqb x y)) refl (λ _ _. refl) ys)

@@ -19,7 +19,7 @@ pub(crate) trait Entry: Copy {
     ghost form: { ℕ → Form };
 
     // The numbers of that line.
-    ghost row: { Self → List ℕ };
+    ghost numbers: { Self → List ℕ };
 
     // The key of that line.
     fn key() -> &'static [u8]
@@ -27,13 +27,13 @@ pub(crate) trait Entry: Copy {
 
     // The entry with the numbers `body`, in a task of `blocks` blocks.
     fn parse(body: &[u8], blocks: usize) -> Result<Self, TextRule>
-        ensures { ReadsBody (form blocks) row body.now result };
+        ensures { ReadsBody (form blocks) numbers body.now result };
 }
 
 impl Entry for Block {
     ghost form = { λ _. block_form };
 
-    ghost row = { block_row };
+    ghost numbers = { block_row };
 
     fn key() -> &'static [u8] {
         b"block="
@@ -57,7 +57,7 @@ impl Entry for Block {
 impl Entry for Loop {
     ghost form = { loop_form };
 
-    ghost row = { loop_row };
+    ghost numbers = { loop_row };
 
     fn key() -> &'static [u8] {
         b"loop="
@@ -85,7 +85,7 @@ impl Entry for Loop {
 impl Entry for Edge {
     ghost form = { edge_form };
 
-    ghost row = { edge_row };
+    ghost numbers = { edge_row };
 
     fn key() -> &'static [u8] {
         b"edge="
@@ -112,7 +112,7 @@ fn entry_line<'a, E: Entry>(
     blocks: usize,
     at: usize,
 ) -> Result<(E, &'a [u8]), TextFault>
-    ensures { ReadsLine (form blocks) row at text.now result }
+    ensures { ReadsLine (E.form blocks) E.numbers at text.now result }
 {
     let Some((body, rest)) = cut_line(text, E::key()) else {
         return Err(TextFault {
@@ -135,7 +135,7 @@ fn entries<'a, E: Entry + 'a>(
     at: usize,
 ) -> Result<(Vec<E>, &'a [u8]), ReadError>
     requires { at + count < 2 ^ 64 }
-    ensures { ReadsEntries count (form blocks) row at text.now result }
+    ensures { ReadsEntries count (E.form blocks) E.numbers at text.now result }
 {
     let mut all = Vec::new(heap);
     let mut rest = text;
@@ -158,7 +158,7 @@ pub(crate) fn counted<'a, E: Entry + 'a>(
     at: usize,
 ) -> Result<(Vec<E>, &'a [u8]), ReadError>
     requires { at < 2 ^ 32 }
-    ensures reads { ReadsCounted (single key.now (between low high)) (form blocks) row at text.now result }
+    ensures reads { ReadsCounted (single key.now (between low high)) (E.form blocks) E.numbers at text.now result }
     ensures few { IfOk result (λ p. vec_len p.0 ≤ high) }
 {
     let (count, rest) = bounded_line(text, key, low, high, at)?;

@@ -22,8 +22,8 @@ pub fn settle<G: Copy, K: Facts<G>>(
     entry: K,
     geometry: G,
 ) -> Option<u32>
-    ensures outcome { (result, states.new) ≡ outcome (kind geometry) (takes geometry) (region_of blocks.now edges.now range) entry states.old }
-    ensures few { (n : ℕ) → result ≡ Some n → n ≤ length blocks.now * (kind geometry).height + 1 }
+    ensures outcome { (result, states.new) ≡ outcome (K.kind geometry) (K.takes geometry) (region_of blocks.now edges.now range) entry states.old }
+    ensures few { (n : ℕ) → result ≡ Some n → n ≤ length blocks.now * (K.kind geometry).height + 1 }
 {
     if !K::takes(geometry) || !can_settle(blocks, range, states.len()) {
         return None;
@@ -44,7 +44,7 @@ pub fn entry_state<G: Copy, K: Facts<G>>(
     range: Loop,
     geometry: G,
 ) -> Option<K>
-    ensures { result ≡ entry_of (kind geometry) (takes geometry) (region_of blocks.now edges.now range) states.now }
+    ensures { result ≡ entry_of (K.kind geometry) (K.takes geometry) (region_of blocks.now edges.now range) states.now }
 {
     if !K::takes(geometry) || !has_room(blocks, states.len()) || !start_below(edges, blocks.len()) {
         return None;
@@ -63,8 +63,8 @@ fn run<G: Copy, K: Facts<G>>(
     range: Loop,
     geometry: G,
 ) -> u32
-    requires { Ready (takes geometry) blocks.now range (length states.old) }
-    ensures { passesOf (kind geometry) (region_of blocks.now edges.now range) (length blocks.now * (kind geometry).height + 1) states.old ≡ (states.new, result) }
+    requires { Ready (K.takes geometry) blocks.now range (length states.old) }
+    ensures { passesOf (K.kind geometry) (region_of blocks.now edges.now range) (length blocks.now * (K.kind geometry).height + 1) states.old ≡ (states.new, result) }
 {
     let mut passes = 1;
     while pass(states, blocks, edges, range, geometry) {
@@ -81,9 +81,9 @@ fn pass<G: Copy, K: Facts<G>>(
     range: Loop,
     geometry: G,
 ) -> bool
-    requires { Ready (takes geometry) blocks.now range (length states.old) }
-    ensures after { states.new ≡ passed (kind geometry) (region_of blocks.now edges.now range) states.old }
-    ensures changed { result ≡ not (unchanged (kind geometry) states.old states.new) }
+    requires { Ready (K.takes geometry) blocks.now range (length states.old) }
+    ensures after { states.new ≡ passed (K.kind geometry) (region_of blocks.now edges.now range) states.old }
+    ensures changed { result ≡ not (unchanged (K.kind geometry) states.old states.new) }
 {
     let mut changed = false;
     for b in range.header..range.last + 1 {
@@ -106,9 +106,9 @@ fn turn<G: Copy, K: Facts<G>>(
     range: Loop,
     geometry: G,
 ) -> K
-    requires ready { Ready (takes geometry) blocks.now range (length states.now) }
+    requires ready { Ready (K.takes geometry) blocks.now range (length states.now) }
     requires at { b < length blocks.now }
-    ensures { result ≡ gathered (kind geometry) blocks.now states.now (state_at (kind geometry) states.now b) (predecessors (region_of blocks.now edges.now range) b) }
+    ensures { result ≡ gathered (K.kind geometry) blocks.now states.now (state_at (K.kind geometry) states.now b) (predecessors (region_of blocks.now edges.now range) b) }
 {
     let mut state = states[b];
     for e in edges {
@@ -127,11 +127,11 @@ fn entering<G: Copy, K: Facts<G>>(
     range: Loop,
     geometry: G,
 ) -> K
-    requires taken { takes geometry ≡ true }
+    requires taken { K.takes geometry ≡ true }
     requires placed { every placed blocks.now ≡ true }
     requires room { length blocks.now ≤ length states.now }
     requires below { every (starts_below (length blocks.now)) edges.now ≡ true }
-    ensures { result ≡ gathered (kind geometry) blocks.now states.now (kind geometry).nothing_yet (starts (leads_in range) edges.now) }
+    ensures { result ≡ gathered (K.kind geometry) blocks.now states.now (K.kind geometry).nothing_yet (starts (leads_in range) edges.now) }
 {
     let mut state = K::nothing(geometry);
     for e in edges {
@@ -144,11 +144,11 @@ fn entering<G: Copy, K: Facts<G>>(
 
 // The state joined with the end state of block p.
 fn add<G: Copy, K: Facts<G>>(state: K, states: &[K], p: usize, blocks: &[Block], geometry: G) -> K
-    requires taken { takes geometry ≡ true }
+    requires taken { K.takes geometry ≡ true }
     requires placed { every placed blocks.now ≡ true }
     requires at { p < length blocks.now }
     requires room { length blocks.now ≤ length states.now }
-    ensures { result ≡ (kind geometry).joined state (end_state (kind geometry) blocks.now states.now p) }
+    ensures { result ≡ (K.kind geometry).joined state (end_state (K.kind geometry) blocks.now states.now p) }
 {
     let before = states[p];
     let end = before.pass(p, &blocks[p], geometry);

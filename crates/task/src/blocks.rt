@@ -38,8 +38,8 @@ pub(crate) fn first_unreached(blocks: usize, edges: &[Edge]) -> Option<usize>
 
 // Place 0, if the blocks have too many fetches.
 pub(crate) fn too_many_fetches(blocks: &[Block]) -> Option<usize>
-    requires blocks_len_bound { length blocks.now ≤ 128 }
-    requires by_index { (b : ℕ) → b < length blocks.now → (block_at blocks.now b).fetches ≤ 64 }
+    requires few_blocks { length blocks.now ≤ 128 }
+    requires few_fetches { (b : ℕ) → b < length blocks.now → (block_at blocks.now b).fetches ≤ 64 }
     ensures { First (BreaksTooManyFetches blocks.now) result }
 {
     let mut total = 0;

@@ -54,7 +54,7 @@ impl Row for Edge {
 
 // Lays a line that says how many rows there are, and then theirs, and says where the last one ends.
 pub fn lay_list<R: Row>(out: &mut [u8], at: usize, heading: &[u8], rows: &[R]) -> usize
-    ensures { Lays at (list_text heading.now key numbers rows.now) out.old result out.new }
+    ensures { Lays at (list_text heading.now R.key R.numbers rows.now) out.old result out.new }
 {
     let mut end = lay_line(out, at, heading, &[rows.len() as u64]);
     for row in rows {

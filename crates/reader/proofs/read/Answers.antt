@@ -75,8 +75,8 @@ returns-then-not-is_empty c =
     (to_end t u v h bs n (c.len-n.ensures ∙ c.in_ok-blocks.blocks.ok.0) c.in_ok-header.ensures c.in_ok-blocks.ensures.reads
     w x ls es m (c.len.ensures ∙ c.in_ok-loops.loops.ok.0) c.in_ok-loops.ensures.reads c.in_ok-edges.ensures.reads)
 
-pub invariant-of-result : goal.invariant-of-result
-invariant-of-result c =
+pub invariant_of-result : goal.invariant_of-result
+invariant_of-result c =
     let t = c.args.bytes.now in
     let u = c.in_ok-header.text.now in
     let v = c.in_ok-blocks.text.now in
@@ -89,7 +89,7 @@ invariant-of-result c =
     let r = to_record t u v h bs c.len-n.result (c.len-n.ensures ∙ c.in_ok-blocks.blocks.ok.0) c.in_ok-header.ensures c.in_ok-blocks.ensures.reads
     w x ls es c.len.result (c.len.ensures ∙ c.in_ok-loops.loops.ok.0) c.in_ok-loops.ensures.reads c.in_ok-edges.ensures.reads
     (true-eqb _ 0 c.if-not-is_empty.ensures) in
-    (r.0, tt)
+    record { ranges = r.0 }
 
 pub returns : goal.returns
 returns c =

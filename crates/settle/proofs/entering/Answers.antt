@@ -22,7 +22,7 @@ loop-e-init g c =
 pub loop-e-preserved : goal.loop-e-preserved
 loop-e-preserved g c =
     gathered_more (g.K.Facts.kind c.args.geometry) c.args.blocks.now c.args.states.now (leads_in c.args.range) c.args.edges.now
-    c.loop-e.e-index c.loop-e.state c.if-leads_in.state c.leads_in_lem.result c.loop-e-test.true c.leads_in_lem.ensures
+    c.loop-e.e-index c.loop-e.state c.if-leads_in.state c.leads_in.result c.loop-e-test.true c.leads_in.ensures
     (elim c.if-leads_in.branch [
       | then-leads_in w ↦ inl (w.if-leads_in.true, w.state-is ∙ w.add-state.ensures)
       | else-leads_in w ↦ inr (w.if-leads_in.false, w.state-is)

@@ -12,19 +12,19 @@ loop-range-init g c =
 pub loop-range-smaller : goal.loop-range-smaller
 loop-range-smaller g c =
     pass_lowers (g.met.K.Facts.lawful c.args.geometry c.requires.taken) (region_of c.args.blocks.now c.args.edges.now c.args.range)
-    c.loop_range.states c.pass.new.states c.pass.result (omega arith) c.pass.ensures.after c.pass.ensures.changed c.loop-range-test.true
+    c.loop-range.states c.pass.new.states c.pass.result (omega arith) c.pass.ensures.after c.pass.ensures.changed c.loop-range-test.true
 
 pub loop-range-preserved : goal.loop-range-preserved
 loop-range-preserved g c =
     let k = g.K.Facts.kind c.args.geometry in
     going_on k (region_of c.args.blocks.now c.args.edges.now c.args.range) (length c.args.blocks.now * k.height + 1)
-    c.args.states.now c.loop_range.states c.pass.new.states c.loop_range.passes c.pass.result
-    c.pass.ensures.after c.pass.ensures.changed c.loop_range.invariant c.loop-range-test.true (loop-range-smaller g c)
+    c.args.states.now c.loop-range.states c.pass.new.states c.loop-range.passes c.pass.result
+    c.pass.ensures.after c.pass.ensures.changed c.loop-range.invariant c.loop-range-test.true (loop-range-smaller g c)
 
 pub overflow_add-passes : goal.overflow_add-passes
 overflow_add-passes g c =
     let laws = g.met.K.Facts.lawful c.args.geometry c.requires.taken in
-    let few = c.loop_range.invariant.few in
+    let few = c.loop-range.invariant.few in
     let low = ranks_fit laws c.args.states.now (length c.args.blocks.now) c.requires.room in
     let small = height_small laws (length c.args.blocks.now) c.requires.few in
     omega arith
@@ -33,5 +33,5 @@ pub returns : goal.returns
 returns g c =
     let k = g.K.Facts.kind c.args.geometry in
     going_ends k (region_of c.args.blocks.now c.args.edges.now c.args.range) (length c.args.blocks.now * k.height + 1)
-    c.args.states.now c.loop_range.states c.pass.new.states c.loop_range.passes c.pass.result
-    c.pass.ensures.after c.pass.ensures.changed c.loop_range.invariant c.loop-range-test.false
+    c.args.states.now c.loop-range.states c.pass.new.states c.loop-range.passes c.pass.result
+    c.pass.ensures.after c.pass.ensures.changed c.loop-range.invariant c.loop-range-test.false

@@ -18,8 +18,8 @@ fetch_block-misses-requires c =
     ap placed (block_read (task_contents t) c.args.block c.index.result.now c.requires c.index.ensures)
     ∙ block_placed (task_contents t) t.sound c.args.block c.requires
 
-pub overflow-cast-entered : goal.overflow-cast-entered
-overflow-cast-entered c =
+pub overflow_cast-entered : goal.overflow_cast-entered
+overflow_cast-entered c =
     let t = c.args.task.now in
     let few : c.index.result.now.fetches ≤ 64 =
     subst (λ (x : Block). x.fetches ≤ 64) (sym (block_read (task_contents t) c.args.block c.index.result.now c.requires c.index.ensures))
@@ -38,13 +38,13 @@ returns c fits free =
     let rounds = c.enter_rounds.new.rounds in
     let kept = with_items_is w.cache cache (omega (arith, c.fetch_block-misses.auto.cache, c.deref_mut.ensures.len)) in
     let long = with_items_is w.rounds rounds (omega (arith, c.enter_rounds.auto.rounds, c.deref_mut-2.ensures.len)) in
-    entered_is (task_contents t) b (run_of w) block c.fetch_block-misses.result c.entry_cycles_lem.result _
+    entered_is (task_contents t) b (run_of w) block c.fetch_block-misses.result c.entry_cycles.result _
     (block_read (task_contents t) b block c.requires c.index.ensures) fits (record {
       here = refl;
       held = kept ∙ c.fetch_block-misses.ensures.cache ∙ ap (fetch_all (fetch_cache g) (fetch_lines g block)) c.deref_mut.ensures.value;
       stays = long ∙ subst (λ rs. length rs ≡ length ls → (SpentOf ls rs b → ⊥) → rounds ≡ entered_rounds ls b rs) c.deref_mut-2.ensures.value c.enter_rounds.ensures fits.long free;
       few = c.fetch_block-misses.ensures.misses ∙ ap (misses_of g (fetch_lines g block)) c.deref_mut.ensures.value;
-      price = c.entry_cycles_lem.ensures;
+      price = c.entry_cycles.ensures;
       cycles = c.saturating_add-self.ensures;
       misses = c.saturating_add-self-2.ensures;
       fetches = c.saturating_add-self-3.ensures;

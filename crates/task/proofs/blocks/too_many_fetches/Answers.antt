@@ -6,7 +6,7 @@ use Rattle.task.proofs.blocks.too_many_fetches.Goals as goal
 pub loop-block-preserved : goal.loop-block-preserved
 loop-block-preserved c =
     let i = c.loop-block.block-index in
-    let few = c.requires.1 i c.loop-block-test.true in
+    let few = c.requires.few_fetches i c.loop-block-test.true in
     let step = at_drop_more total_fetches c.args.blocks.now i (record { address = 0; fetches = 0; cycles = 0 }) c.loop-block-test.true in
     omega arith
 

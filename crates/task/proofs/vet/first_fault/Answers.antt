@@ -10,7 +10,7 @@ returns-in-Some c =
     record { first = broken; only = only_fault (contents c.args.«record».now) (Some _) broken; laws = tt }
 
 pub loop-rule-preserved : goal.loop-rule-preserved
-loop-rule-preserved c = tried_more c.loop-rule.invariant c.loop-rule-test.true c.in-default.ensures
+loop-rule-preserved c = tried_more c.loop-rule.invariant c.loop-rule-test.true c.in_default.ensures
 
 pub returns : goal.returns
 returns c =

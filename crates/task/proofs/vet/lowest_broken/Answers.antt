@@ -15,7 +15,7 @@ pub too_many_fetches-requires : goal.too_many_fetches-requires
 too_many_fetches-requires c =
     let r = c.args.«record».now in
     rw c.as_slice-blocks.ensures.value
-    ((ranges (contents r) r.ranges).few_blocks, λ b h. (block_range_at (contents r) r.ranges b h).fetches)
+    (record { few_blocks = (ranges (contents r) r.ranges).few_blocks; few_fetches = λ b h. (block_range_at (contents r) r.ranges b h).fetches })
 
 pub returns-in-LoopOrder : goal.returns-in-LoopOrder
 returns-in-LoopOrder c =
