@@ -35,8 +35,7 @@ fn requested(rt: &HostRuntime) -> anyhow::Result<Job> {
         if arg.as_str() == "--help" {
             job = Job::Help;
         } else {
-            let text = format!(in rt.alloc(); "unknown argument '{arg}'; try --help")?;
-            return Err(text.into());
+            return Err(anyhow!("unknown argument '{arg}'; try --help"));
         }
     }
     Ok(job)

@@ -9,8 +9,8 @@ use Rattle.marks.specs.Steps.{Settled}
 use Rattle.marks.proofs.Progress.{marked_some}
 use Rattle.marks.proofs.mark.Goals as goal
 
-pub overflow-cast-blocks : goal.overflow-cast-blocks
-overflow-cast-blocks g c = let few = (ranges (task_contents c.args.task.now) c.args.task.now.«record».ranges).few_blocks in omega arith
+pub overflow_cast-blocks : goal.overflow_cast-blocks
+overflow_cast-blocks g c = let few = (ranges (task_contents c.args.task.now) c.args.task.now.«record».ranges).few_blocks in omega arith
 
 pub settle_task-requires : goal.settle_task-requires
 settle_task-requires g c =

@@ -25,8 +25,8 @@ returns-in-Some g c =
     bs es c.loop_at-range.result c.as_slice-blocks.ensures.value c.as_slice-edges.ensures.value c.loop_at-range.ensures.range
     c.args.first.now c.requires.room c.in-Some.entry c.settle.result c.settle.new.states c.settle.ensures.outcome).1
 
-pub returns-in-default : goal.returns-in-default
-returns-in-default g c =
+pub returns-in_default : goal.returns-in_default
+returns-in_default g c =
     let t = task_contents c.args.task.now in
     let s = t.header.geometry in
     let k = g.K.Facts.kind s in
@@ -35,6 +35,6 @@ returns-in-default g c =
     let es = c.as_slice-edges.result.now in
     let known = entry_known k (g.K.Facts.takes s) takes t c.args.task.now.«record».ranges c.args.task.now.sound c.args.number c.requires.number
     bs es c.loop_at-range.result c.as_slice-blocks.ensures.value c.as_slice-edges.ensures.value c.loop_at-range.ensures.range
-    c.args.settled.now c.requires.whole.room c.requires.whole None c.in-default.ensures in
+    c.args.settled.now c.requires.whole.room c.requires.whole None c.in_default.ensures in
     let z : ◌≡◌ {A = ℕ} 0 1 = cc in
     absurd (omega arith)

@@ -9,13 +9,13 @@ use Rattle.task.proofs.Ranged.{block_range_at}
 use Rattle.marks.proofs.Counts.{fetches_more, fetches-all}
 use Rattle.marks.proofs.places.fetches_before.Goals as goal
 
-here : (c : goal.After-row-known·1) → c.loop-i.i < length (task_contents c.args.task.now).blocks
+here : (c : goal.After-row_known-1) → c.loop-i.i < length (task_contents c.args.task.now).blocks
 here c = omega arith
 
-at : (c : goal.After-row-known·1) → c.index.result.now ≡ block_at (task_contents c.args.task.now).blocks c.loop-i.i
+at : (c : goal.After-row_known-1) → c.index.result.now ≡ block_at (task_contents c.args.task.now).blocks c.loop-i.i
 at c = get_or_read (vec_items c.args.task.now.«record».blocks) c.loop-i.i c.index.result.now (here c) c.index.ensures _
 
-few : (c : goal.After-row-known·1) → c.index.result.now.fetches ≤ 64
+few : (c : goal.After-row_known-1) → c.index.result.now.fetches ≤ 64
 few c =
     let r = (block_range_at (task_contents c.args.task.now) c.args.task.now.«record».ranges c.loop-i.i (here c)).fetches in
     let e = ap (λ (x : Block). x.fetches) (at c) in

@@ -14,8 +14,8 @@ loop-i-preserved c =
     let e : c.within.result ≡ within (loop_at ls i) b =
     c.within.ensures.test ∙ ap (λ x. within x b) (get_or_read ls i c.index.result.now l c.index.ensures _) in
     elim c.if-within.branch [
-      | then-within w ↦ (let n = w.level_is in let d = ap length (around_more_in ls i b l (sym e ∙ w.if-within.true)) in (omega arith, omega arith))
-      | else-within w ↦ (let n = w.level_is in let d = ap length (around_more_out ls i b l (sym e ∙ w.if-within.false)) in (omega arith, omega arith))
+      | then-within w ↦ (let n = w.level-is in let d = ap length (around_more_in ls i b l (sym e ∙ w.if-within.true)) in (omega arith, omega arith))
+      | else-within w ↦ (let n = w.level-is in let d = ap length (around_more_out ls i b l (sym e ∙ w.if-within.false)) in (omega arith, omega arith))
     ]
 
 pub returns : goal.returns
