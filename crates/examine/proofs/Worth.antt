@@ -48,6 +48,13 @@ found_same : {p q f h : ℕ} {g k : Pair} {cs ds : List (List (List Category))} 
 found_same {p} {q} {f} {h} {g} {k} {cs} {ds} passes figure greatest categories =
     ap₂ (λ x y. found_of x y g cs) passes figure ∙ ap₂ (found_of q h) greatest categories
 
+-- what an accepted examination shows
+pub record Accepted {K : Type 0} (kind : Geometry → Kind K) (fetched : Geometry → ℕ → K → K) (c : Contents) (e : Examination) : Type 0 where
+  pub finds : Finds kind fetched c e
+  pub holds : Holds kind fetched c
+  pub shows : shown c e ≡ findings kind fetched c
+  pub worth : Worth kind fetched c
+
 module _ {K : Type 0} (takes : Geometry → Bool) (kind : Geometry → Kind K) (fetched : Geometry → ℕ → K → K)
     (everywhere : (g : Geometry) → in_range g ≡ true → takes g ≡ true) (lawful : (g : Geometry) → takes g ≡ true → Lawful (kind g)) where
   -- settling ends after few passes
@@ -117,3 +124,14 @@ module _ {K : Type 0} (takes : Geometry → Bool) (kind : Geometry → Kind K) (
     shows c e table format sound same passes agrees by =
         found_same passes (found_cycles c table e.figures format sound agrees by).figure (found_pairs c table e.figures format sound agrees by).figure
         (ap (λ x. each_fetch c (row_shown c x)) same ∙ categories_agree c table (task_marks kind fetched c) agrees)
+
+    -- all that an acceptance shows
+    pub examined : (c : Contents) (e : Examination) (table : List (List Category)) → InFormat c → Sound c → vec_items e.table ≡ table
+        → e.passes ≡ (task_states (kind c.header.geometry) c).1 → Agrees c table (task_marks kind fetched c) → FiguresBy c table e.figures
+        → Accepted kind fetched c e
+    examined c e table format sound same passes agrees by = record {
+      finds = finds c e table format sound same passes agrees by;
+      holds = holds c format sound;
+      shows = shows c e table format sound same passes agrees by;
+      worth = worth c format sound;
+    }

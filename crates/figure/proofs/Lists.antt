@@ -67,7 +67,7 @@ module _ (f : ℕ → ℕ) (test : ℕ → Bool) (seen : List ℕ) (n : ℕ) whe
   lines_more_no e = ap (λ xs. distinct seen (map f xs)) (passing_more_no test n e)
 
 -- what `contains` answers
-pub contains_one : (xs : List ℕ) (x : ℕ) (r : Bool) → IsAnyAnswer (λ y t. Decides t (y ≡ x)) xs r → r ≡ one_of_these x xs
+pub contains_one : (xs : List ℕ) (x : ℕ) (r : Bool) → IsAnyAnswer (λ y t. eqb y x ≡ t) xs r → r ≡ one_of_these x xs
 contains_one xs x r h =
     same_from_decides r (one_of_these x xs) (contains_decides eqb Decides-eqb xs x r h)
     (Decides-by_or (λ y. eqb x y) (λ y. y ≡ x) (one_of_these x) (λ y. Decides-like (eqb x y) sym sym (Decides-eqb x y)) refl (λ _ _. refl) xs)

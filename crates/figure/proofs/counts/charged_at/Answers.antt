@@ -43,8 +43,8 @@ loop-b-preserved c =
     let first = ap (λ (l : Loop). l.header) c.loop_of-l.ensures in
     lines_more k (mark_at k c.args.table.now) c.args.i (loop_at (all_loops k) c.args.i).header c.loop-b.b (vec_items c.loop-b.lines) (vec_items c.add_charged.new.lines) (omega (arith, c.loop-b.auto.b)) c.loop-b.invariant c.in_ok-add_charged.ensures
 
-pub overflow-cast-result : goal.overflow-cast-result
-overflow-cast-result c =
+pub overflow_cast-result : goal.overflow_cast-result
+overflow_cast-result c =
     let task = c.args.task.now in
     let k = task_contents task in
     let some = filled k task.«record».ranges task.sound c.args.i c.requires.number in

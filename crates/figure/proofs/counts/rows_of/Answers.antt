@@ -16,8 +16,8 @@ overflow_add-result c =
     let end = rows_end (task_contents task) c.args.b c.requires.block c.as_slice-blocks.result.now c.first_row-first.result c.as_slice-blocks.ensures.value c.first_row-first.ensures in
     omega (arith, few_rows (task_contents task) task.sound)
 
-pub offset-bounds-table-first : goal.offset-bounds-table-first
-offset-bounds-table-first c =
+pub offset_bounds-table-first : goal.offset_bounds-table-first
+offset_bounds-table-first c =
     let task = c.args.task.now in
     let end = rows_end (task_contents task) c.args.b c.requires.block c.as_slice-blocks.result.now c.first_row-first.result c.as_slice-blocks.ensures.value c.first_row-first.ensures in
     omega (arith, few_rows (task_contents task) task.sound)
