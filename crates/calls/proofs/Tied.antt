@@ -16,7 +16,7 @@ use Rattle.categories.specs.Meaning.{KeptAlways, CoveredAlways}
 use Rattle.marks.specs.Table.{level_of}
 use Rattle.marks.specs.Marked.{task_marks}
 use Rattle.examine.specs.Findings.{Findings, findings, category_at}
-use Rattle.examine.specs.Outcome.{Worth}
+use Rattle.examine.specs.Outcome.{Warranted}
 use Rattle.examine.proofs.Categories.{category_found}
 use Rattle.calls.specs.declared.fault.BenchFault.{BenchFault}
 use Rattle.calls.specs.declared.fault.BenchFault.TheVariants.{WrongStage}
@@ -37,7 +37,7 @@ pub record Found (c : Contents) (f : Findings) : Type 0 where
   pub shown : (b j i : ℕ) → b < length c.blocks → j < fetches_of c b → i < length (all_loops c) → Within (loop_at (all_loops c) i) b
       → category_at f b j (level_of c b i) ≡ marks b j i
 
-pub found : {K : Type 0} (kind : Geometry → Kind K) (fetched : Geometry → ℕ → K → K) (c : Contents) → Worth kind fetched c → Found c (findings kind fetched c)
+pub found : {K : Type 0} (kind : Geometry → Kind K) (fetched : Geometry → ℕ → K → K) (c : Contents) → Warranted kind fetched c → Found c (findings kind fetched c)
 found kind fetched c holds = record {
   marks = task_marks kind fetched c;
   kept = holds.kept;

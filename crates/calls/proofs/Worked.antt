@@ -10,7 +10,7 @@ use Rattle.facts.specs.Kind.{Kind}
 use Rattle.run.specs.Run.{Run}
 use Rattle.run.specs.Open.{Spent}
 use Rattle.examine.specs.Findings.{findings}
-use Rattle.examine.specs.Outcome.{Worth}
+use Rattle.examine.specs.Outcome.{Warranted}
 use Rattle.calls.specs.Outcomes.{Reads, Free}
 use Rattle.calls.specs.Held.{Along}
 use Rattle.calls.specs.Example.{at_first, started, second, walked, Worked}
@@ -45,7 +45,7 @@ no_edge (suc (suc zero), h, from, to) = omega arith
 no_edge (suc (suc (suc zero)), h, from, to) = omega arith
 no_edge (suc (suc (suc (suc k))), h, from, to) = omega arith
 
-pub worked : {K : Type 0} (kind : Geometry → Kind K) (fetched : Geometry → ℕ → K → K) (work after : List K) → 8 ≤ length work → Worth kind fetched example
+pub worked : {K : Type 0} (kind : Geometry → Kind K) (fetched : Geometry → ℕ → K → K) (work after : List K) → 8 ≤ length work → Warranted kind fetched example
     → Worked kind fetched work after (findings kind fetched example)
 worked kind fetched work after long holds = record {
   load = (example, reads, refl);

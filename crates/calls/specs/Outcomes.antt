@@ -12,7 +12,7 @@ use Rattle.cache_state.specs.Cache.{Cache}
 use Rattle.run.specs.Run.{Run, entered, fresh}
 use Rattle.run.specs.Open.{Spent}
 use Rattle.examine.specs.Findings.{Findings, findings}
-use Rattle.examine.specs.Outcome.{Worth}
+use Rattle.examine.specs.Outcome.{Warranted}
 use Rattle.listing.specs.Text.{block_text}
 use Rattle.calls.specs.declared.call.Call.{Call}
 use Rattle.calls.specs.declared.call.Call.TheVariants.{Load, Examine, Start, Step, Close, Write, List as Listing}
@@ -47,7 +47,7 @@ LoadCall t v r w = Admitted Load v r (w ≡ v) (Loaded t v r w)
 module _ {K : Type 0} (kind : Geometry → Kind K) (fetched : Geometry → ℕ → K → K) where
   abbrev pub Examines : List K → View → Result ℕ Refusal → List K → View → Type 0
   Examines work v (Ok n) after w =
-      (2 * length (task_of v).blocks ≤ length work) × (n ≡ (findings kind fetched (task_of v)).passes) × Worth kind fetched (task_of v)
+      (2 * length (task_of v).blocks ≤ length work) × (n ≡ (findings kind fetched (task_of v)).passes) × Warranted kind fetched (task_of v)
       × (w ≡ examined (task_of v) (findings kind fetched (task_of v)))
   Examines work v (Err e) after w =
       (after ≡ work) × (w ≡ v)

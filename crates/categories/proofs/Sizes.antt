@@ -75,19 +75,27 @@ module _ (c : Contents) (format : InFormat c) where
         let n = length-range_with_len l.header (suc l.last - l.header) in
         omega (arith, last_small i h)
 
-    cost_small : (pays : Category → Bool) (b : ℕ)
-        → (block_at c.blocks b).cycles + (c.header.hit * fetches_of c b + c.header.penalty * paying c marks pays b) < 2 ^ 32
-    cost_small pays b =
+    -- 64 fetches and their penalties
+    pub entry_few : (pays : Category → Bool) (b : ℕ)
+        → (block_at c.blocks b).cycles + (c.header.hit * fetches_of c b + c.header.penalty * paying c marks pays b) ≤ 343935
+    entry_few pays b =
         let s = block_small b in
         let hits = mul-le-mul (ranges c format).header.hit_high s.0 in
         let misses = mul-le-mul (ranges c format).header.penalty (paying_small pays b) in
         omega (arith, s.1)
 
+    -- the penalties of 8,192 lines
+    pub stay_few : (i : ℕ) → i < length (all_loops c) → c.header.penalty * length (charged_at c marks i) ≤ 33546240
+    stay_few i h = let s = mul-le-mul (ranges c format).header.penalty (charged_small i h) in omega arith
+
+    cost_small : (pays : Category → Bool) (b : ℕ)
+        → (block_at c.blocks b).cycles + (c.header.hit * fetches_of c b + c.header.penalty * paying c marks pays b) < 2 ^ 32
+    cost_small pays b = omega (arith, entry_few pays b)
+
     pub cycle_costs_small : (b i : ℕ) → i < length (all_loops c)
         → ((cycle_costs c marks).first b < 2 ^ 32) × ((cycle_costs c marks).later b < 2 ^ 32) × ((cycle_costs c marks).stay i < 2 ^ 32)
     cycle_costs_small b i h =
-        let s = mul-le-mul (ranges c format).header.penalty (charged_small i h) in
-        (cost_small pays_first b, cost_small pays_later b, omega arith)
+        (cost_small pays_first b, cost_small pays_later b, omega (arith, stay_few i h))
 
     pub pair_costs_small : (b i : ℕ) → i < length (all_loops c)
         → (pair_size ((pair_costs c marks).first b) < 2 ^ 32) × (pair_size ((pair_costs c marks).later b) < 2 ^ 32) × (pair_size ((pair_costs c marks).stay i) < 2 ^ 32)

@@ -36,7 +36,7 @@ use Rattle.figure.proofs.Pricing.{found_agree}
 use Rattle.examine.specs.declared.examination.Examination.{Examination}
 use Rattle.examine.specs.Findings.{Findings, each_fetch, findings, row_shown, shown}
 use Rattle.examine.specs.Examined.{Finds, Holds}
-use Rattle.examine.specs.Outcome.{Worth}
+use Rattle.examine.specs.Outcome.{Warranted}
 use Rattle.examine.proofs.Categories.{categories_agree}
 use Rattle.examine.proofs.Passes.{passed_test}
 
@@ -53,7 +53,7 @@ pub record Accepted {K : Type 0} (kind : Geometry → Kind K) (fetched : Geometr
   pub finds : Finds kind fetched c e
   pub holds : Holds kind fetched c
   pub shows : shown c e ≡ findings kind fetched c
-  pub worth : Worth kind fetched c
+  pub worth : Warranted kind fetched c
 
 module _ {K : Type 0} (takes : Geometry → Bool) (kind : Geometry → Kind K) (fetched : Geometry → ℕ → K → K)
     (everywhere : (g : Geometry) → in_range g ≡ true → takes g ≡ true) (lawful : (g : Geometry) → takes g ≡ true → Lawful (kind g)) where
@@ -67,7 +67,7 @@ module _ {K : Type 0} (takes : Geometry → Bool) (kind : Geometry → Kind K) (
   module _ (distributing : (g : Geometry) → takes g ≡ true → Distributing (kind g)) (fetching : (g : Geometry) → takes g ≡ true → Fetching g (kind g) (fetched g))
       (spreading : (g : Geometry) (t : ℕ) → takes g ≡ true → Distributes (kind g) (fetched g t)) where
     -- the categories mean what they say, are kept, and are charged enough
-    pub worth : (c : Contents) → InFormat c → Sound c → Worth kind fetched c
+    pub worth : (c : Contents) → InFormat c → Sound c → Warranted kind fetched c
     worth c format sound =
         let g = c.header.geometry in
         let passed = passed_by (passed_kind (length c.blocks)) c in

@@ -17,7 +17,7 @@ use Rattle.examine.specs.Findings.{findings, shown}
 module _ {K : Type 0} (kind : Geometry → Kind K) (fetched : Geometry → ℕ → K → K) (c : Contents) where
   -- What the findings are worth: few passes settle the task, the categories mean what they say, every walk keeps them and is
   -- charged for all that it runs, and the figures are the greatest charges of the walks within the limits.
-  pub record Worth : Type 0 where
+  pub record Warranted : Type 0 where
     pub few : (findings kind fetched c).passes ≤ length c.blocks * (kind c.header.geometry).height + 1
     pub means : Means (kind c.header.geometry) (fetched c.header.geometry) c (passed_by (passed_kind (length c.blocks)) c)
     pub kept : KeptAlways c (task_marks kind fetched c)
@@ -27,6 +27,6 @@ module _ {K : Type 0} (kind : Geometry → Kind K) (fetched : Geometry → ℕ �
 
   -- The outcome, with the working list before and after: after an acceptance it may hold anything, after a refusal it is as it was.
   abbrev pub Outcome : List K → Result Examination ExamineError → List K → Type 0
-  Outcome before (Ok e) after = (2 * length c.blocks ≤ length before) × (shown c e ≡ findings kind fetched c) × Worth
+  Outcome before (Ok e) after = (2 * length c.blocks ≤ length before) × (shown c e ≡ findings kind fetched c) × Warranted
   Outcome before (Err (TooShort n)) after = (n ≡ 2 * length c.blocks) × (length before < n) × (after ≡ before)
   Outcome before (Err NoMemory) after = (2 * length c.blocks ≤ length before) × (after ≡ before)

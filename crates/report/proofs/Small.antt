@@ -14,9 +14,9 @@ use Rattle.longest.proofs.Shape.{shape}
 use Rattle.longest.proofs.Lengths.{even, charge_few}
 use Rattle.categories.specs.Category.{Marks}
 use Rattle.categories.specs.Costs.{pays_first, pays_later, cycle_costs, cycle_tally}
-use Rattle.categories.proofs.Sizes.{entry-few, stay-few}
+use Rattle.categories.proofs.Sizes.{entry_few, stay_few}
 use Rattle.slot_kind.specs.Slots.{slot_kind, slots_fetched}
-use Rattle.examine.specs.Outcome.{Worth}
+use Rattle.examine.specs.Outcome.{Warranted}
 use Rattle.listing.specs.Load.{load_of}
 use Rattle.listing.proofs.Loads.{twice, nearest}
 use Rattle.report.specs.Reported.{slot_findings, Worthy}
@@ -48,8 +48,8 @@ module _ (c : Contents) (format : InFormat c) (marks : Marks) where
   figure_few : Sound c → (figure : ℕ) → Greatest cycle_tally (cycle_costs c marks) c figure → figure ≤ length c.blocks * 1000000 * (most + most)
   figure_few sound figure g =
       let a = g.attained in
-      let under = charge_most (cycle_costs c marks) (all_loops c) most (λ b. (omega (arith, entry-few c format marks pays_first b), omega (arith, entry-few c format marks pays_later b)))
-      (λ i h. omega (arith, stay-few c format marks i h)) (a.0 ∷ a.1) in
+      let under = charge_most (cycle_costs c marks) (all_loops c) most (λ b. (omega (arith, entry_few c format marks pays_first b), omega (arith, entry_few c format marks pays_later b)))
+      (λ i h. omega (arith, stay_few c format marks i h)) (a.0 ∷ a.1) in
       let over = charge_few (shape c format sound) most 1000000 (λ x h. (shallow c sound x h).1) a.1 a.0 a.2 a.3 in
       omega (arith, a.4)
 
@@ -61,7 +61,7 @@ load_few figure window some few =
     let room = div_below (2 * (1000 * figure) + window) (2 * window) m (omega arith) (omega (arith, twice m window, add-mul (1000 * figure) 2 window)) in
     omega arith
 
-pub worthy : (c : Contents) → InFormat c → Sound c → Worth slot_kind slots_fetched c → Worthy c
+pub worthy : (c : Contents) → InFormat c → Sound c → Warranted slot_kind slots_fetched c → Worthy c
 worthy c format sound h =
     let r = ranges c format in
     let few = figure_few c format _ sound (slot_findings c).figure h.figure in

@@ -11,7 +11,7 @@ use Rattle.kinds.specs.SlotsExact.{HitsAlways}
 use Rattle.categories.specs.declared.category.Category.TheVariants.{AlwaysHit}
 use Rattle.categories.specs.Category.{fetches_of, levels_of}
 use Rattle.examine.specs.Findings.{Findings, findings, category_at}
-use Rattle.examine.specs.Outcome.{Worth}
+use Rattle.examine.specs.Outcome.{Warranted}
 use Rattle.listing.specs.Load.{load_of, Nearest}
 use Rattle.listing.specs.Text.{report_text}
 
@@ -36,7 +36,7 @@ Reported bytes (Err r) = Loading bytes (Err r)
 -- walks within the limits, which cover their runs, a fetch is an always hit exactly if it hits on every walk from every cache, and the
 -- load is the nearest number of thousandths.
 pub record Worthy (c : Contents) : Type 0 where
-  pub holds : Worth slot_kind slots_fetched c
+  pub holds : Warranted slot_kind slots_fetched c
   pub exact : (b j l : ℕ) → b < length c.blocks → j < fetches_of c b → l < length (levels_of c b)
       → (category_at (slot_findings c) b j l ≡ AlwaysHit) ↔ HitsAlways c b j
   pub load : Nearest (slot_findings c).figure c.header.window (load_of (slot_findings c).figure c.header.window)

@@ -6,7 +6,7 @@ ghost use Rattle.task.specs.View.{task_contents};
 ghost use Rattle.load.specs.declared.refusal.Refusal.TheVariants.{NoMemory};
 ghost use Rattle.slot_kind.specs.Slots.{slot_kind, slots_fetched};
 ghost use Rattle.examine.specs.Findings.{shown};
-ghost use Rattle.examine.specs.Outcome.{Worth};
+ghost use Rattle.examine.specs.Outcome.{Warranted};
 ghost use Rattle.listing.specs.Text.{report_text};
 ghost use Rattle.report.specs.Reported.{slot_findings, Reported, Worth};
 
@@ -34,7 +34,7 @@ pub fn report(heap: Global, bytes: &[u8]) -> Result<Vec<u8>, Refusal>
 
 // What is found of the task with the slot kind.
 fn examined(heap: Global, task: &Task) -> Result<Examination, Refusal>
-    ensures { MatchResult result (λ e. (shown (task_contents task.now) e ≡ slot_findings (task_contents task.now)) × Worth slot_kind slots_fetched (task_contents task.now)) (λ e. e ≡ NoMemory) }
+    ensures { MatchResult result (λ e. (shown (task_contents task.now) e ≡ slot_findings (task_contents task.now)) × Warranted slot_kind slots_fetched (task_contents task.now)) (λ e. e ≡ NoMemory) }
 {
     let Ok(mut work) = vec![in heap; SlotState::Nothing; 2 * task.record.blocks.len()] else {
         return Err(Refusal::NoMemory);

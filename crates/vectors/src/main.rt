@@ -65,7 +65,7 @@ fn compare_task(
     if !is_written_back(rt, task, record)? || expected.starts_with(b"refused=") {
         return Ok(Outcome::Wrong);
     }
-    if expected == b"accepted\n" {
+    if expected == b"accepted\n".as_slice() {
         return Ok(Outcome::WrittenBack);
     }
     if finds_stored::<SlotState>(rt, task, name, "out")?

@@ -15,6 +15,6 @@ returns c =
       c = (refl, refl, refl);
       calls = (refl, refl, refl);
       sound_a = (refl, instances.sound_a);
-      sound-b = (refl, example_sound);
+      sound_b = (refl, example_sound);
       sound_c = (refl, instances.sound_c);
     }

@@ -6,8 +6,8 @@ use Rattle.examine.specs.Findings.{shown}
 use Rattle.bench.proofs.Walked.{still_open, onward, walked_same}
 use Rattle.bench.proofs.stage.WalkedTask.step.Goals as goal
 
-pub invariant-of-self-2 : goal.invariant-of-self-2
-invariant-of-self-2 c =
+pub invariant_of-self-2 : goal.invariant_of-self-2
+invariant_of-self-2 c =
     let x = c.args.self.now in
     let t = task_contents x.examined.task in (
       still_open t (shown t x.examined.found) (run_of x.walk) c.args.block x.examined.task.«record».ranges (omega arith) x.examined.backed x.«open»
