@@ -1,8 +1,8 @@
 -- A walk on the worked record, step by step.
-use Rattle.std.proofs.Common.{◌≡◌, ℕ, zero, suc, ◌<◌, ◌≤◌, List, [], ◌∷◌, length, get_or, refl, inl, arith, lit<}
+use Rattle.std.proofs.Common.{◌≡◌, ℕ, zero, suc, ◌≤◌, List, [], ◌∷◌, length, get_or, refl, inl, arith, lit<}
 use Rattle.records.specs.declared.parts.Geometry.{Geometry}
 use Rattle.records.specs.Layout.{record_text}
-use Rattle.task.specs.Graph.{loop_at, edge_at, Leads}
+use Rattle.task.specs.Graph.{loop_at, Leads}
 use Rattle.task.specs.Example.{example}
 use Rattle.task.proofs.Instance.{example_sound}
 use Rattle.walks.specs.Walk.{all_loops}

@@ -6,7 +6,7 @@ use Rattle.task.specs.Example.{example}
 use Rattle.facts.specs.Kind.{Kind}
 use Rattle.cache_state.specs.Cache.{Cache, empty}
 use Rattle.run.specs.Run.{Run, run_along}
-use Rattle.examine.specs.Findings.{Findings, findings}
+use Rattle.examine.specs.Findings.{Findings}
 use Rattle.calls.specs.declared.fault.BenchFault.TheVariants.{NoEdge}
 use Rattle.calls.specs.declared.refusal.Refusal.TheVariants.{Bench}
 use Rattle.calls.specs.View.{unused, loaded, examined, walking}

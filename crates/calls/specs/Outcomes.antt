@@ -11,7 +11,7 @@ use Rattle.facts.specs.Kind.{Kind}
 use Rattle.cache_state.specs.Cache.{Cache}
 use Rattle.run.specs.Run.{Run, entered, fresh}
 use Rattle.run.specs.Open.{Spent}
-use Rattle.examine.specs.Findings.{Findings, findings}
+use Rattle.examine.specs.Findings.{findings}
 use Rattle.examine.specs.Outcome.{Warranted}
 use Rattle.listing.specs.Text.{block_text}
 use Rattle.calls.specs.declared.call.Call.{Call}

@@ -1,6 +1,5 @@
 -- Settled passed blocks tell exactly which blocks every walk has passed.
-use Rattle.std.proofs.Common.{◌≡◌, ℕ, ◌^◌, ◌<◌, ◌≤◌, max, Bool, true, false, cond, ◌&&◌, eqb, ltb, ◌⊎◌, ◌↔◌, length, sym, refl, ap, ◌∙◌, inl, inr, arith, pow_pos}
-use native.Mathlib.Nat.{max-zero, zero-max}
+use Rattle.std.proofs.Common.{◌≡◌, ℕ, ◌^◌, ◌<◌, true, cond, ltb, ◌⊎◌, ◌↔◌, length, refl, inl, inr, arith, pow_pos}
 use lib.Bits.{bit_or}
 use Rattle.std.proofs.lemmas.Bool.{cases_eq, eqb-true, eq-eqb, ne_eqb, lt-ltb, and_parts, and_from}
 use Rattle.std.proofs.lemmas.Bool.Decides.{nat_tests}

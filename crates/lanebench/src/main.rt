@@ -57,8 +57,7 @@ fn run(rt: &HostRuntime) -> anyhow::Result<bool> {
             println!(rt; "{USAGE}")?;
             return Ok(true);
         }
-        let text = format!(in rt.alloc(); "unknown argument '{arg}'; try --help")?;
-        return Err(text.into());
+        return Err(anyhow!("unknown argument '{arg}'; try --help"));
     }
     take_calls(rt)
 }

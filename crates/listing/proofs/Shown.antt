@@ -5,7 +5,6 @@ use Rattle.std.proofs.lemmas.List.FromFn.{get_or-map-range_with_len, length-map-
 use Rattle.std.proofs.lemmas.List.{get_or_past}
 use Rattle.records.specs.declared.parts.Block.{Block}
 use Rattle.records.specs.Contents.{Contents}
-use Rattle.records.specs.Layout.{InFormat}
 use Rattle.task.specs.Graph.{around}
 use Rattle.task.specs.Rules.{Sound}
 use Rattle.task.proofs.Laws.{shallow}

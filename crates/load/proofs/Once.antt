@@ -1,5 +1,5 @@
 -- A text has one outcome.
-use Rattle.std.proofs.Common.{◌≡◌, ℕ, ◌<◌, ◌≤◌, ◌⊎◌, List, length, Ok, Err, Result, sym, refl, ap, ◌∙◌, subst, inl, inr, arith}
+use Rattle.std.proofs.Common.{◌≡◌, ℕ, ◌<◌, ◌≤◌, List, length, Ok, Err, Result, sym, refl, ap, ◌∙◌, subst, inl, inr, arith}
 use Rattle.syntax.specs.declared.fault.TextFault.{TextFault}
 use Rattle.records.specs.Contents.{Contents}
 use Rattle.records.specs.Layout.{InFormat, record_text}
@@ -16,7 +16,7 @@ use Rattle.task.proofs.Tried.{first_once, first_unsound}
 use Rattle.load.specs.declared.refusal.Refusal.{Refusal}
 use Rattle.load.specs.declared.refusal.Refusal.TheVariants.{Text, Graph, NoMemory}
 use Rattle.load.specs.Refusal.{carried}
-use Rattle.load.specs.Loading.{Loading, said, Agree, OneReading, Gives, ReadsBack}
+use Rattle.load.specs.Loading.{Loading, Agree, OneReading, Gives, ReadsBack}
 
 -- what the reader refuses is refused with the same fault
 pub carried_on : (t : List ℕ) (e : ReadError) → Reading t (Err e) → Loading t (Err (carried e))

@@ -1,5 +1,5 @@
 -- The format of a record as plain inequalities.
-use Rattle.std.proofs.Common.{◌≡◌, ℕ, ◌-◌, ◌≤◌, Bool, true, false, ◌&&◌, leb, List, [], ◌∷◌, ◌++◌, map, length, codes, refl}
+use Rattle.std.proofs.Common.{◌≡◌, ℕ, ◌-◌, ◌≤◌, Bool, true, ◌&&◌, leb, List, [], ◌∷◌, ◌++◌, map, length, codes}
 use Rattle.std.proofs.lemmas.Bool.{and_parts, leb-true}
 use Rattle.std.specs.List.{AllByRecursion as All}
 use Rattle.std.proofs.ByRecursion.{All-weaker}
@@ -11,7 +11,7 @@ use Rattle.records.specs.declared.parts.Block.{Block}
 use Rattle.records.specs.declared.parts.Loop.{Loop}
 use Rattle.records.specs.declared.parts.Edge.{Edge}
 use Rattle.records.specs.Contents.{Contents}
-use Rattle.records.specs.Layout.{between, one_of, single, first, line_form, slots_form, hit_form, penalty_form, window_form, blocks_form, block_form, loop_form, edge_form, block_row, loop_row, edge_row, counted, header_rows, edges_format, loops_format, header_format, InFormat}
+use Rattle.records.specs.Layout.{between, one_of, single, first, slots_form, hit_form, penalty_form, window_form, blocks_form, block_form, loop_form, edge_form, block_row, loop_row, edge_row, counted, header_rows, edges_format, loops_format, header_format, InFormat}
 
 pub record HeaderRange (h : Header) : Type 0 where
   pub line : one_of (4 ∷ 8 ∷ 16 ∷ 32 ∷ 64 ∷ []) h.geometry.line ≡ true

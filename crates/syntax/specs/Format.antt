@@ -1,7 +1,7 @@
 -- A format: which lines a text has to have, one after the other.
-use Rattle.std.specs.Prelude.{◌≡◌, ℕ, zero, suc, ◌+◌, ◌<◌, Bool, true, false, ◌&&◌, ◌⊎◌, List, [], ◌∷◌, ◌++◌, length}
+use Rattle.std.specs.Prelude.{◌≡◌, ℕ, zero, suc, ◌+◌, ◌<◌, Bool, true, false, ◌&&◌, ◌⊎◌, List, [], ◌∷◌, length}
 use Rattle.syntax.specs.declared.fault.TextRule.{TextRule}
-use Rattle.syntax.specs.declared.fault.TextRule.TheVariants.{TooLong, Line, Number, Range}
+use Rattle.syntax.specs.declared.fault.TextRule.TheVariants.{Line}
 use Rattle.syntax.specs.Line.{Form, Takes, BadLine, line_text, in_ranges, short}
 
 -- no more lines; or a line, and then what its numbers ask for

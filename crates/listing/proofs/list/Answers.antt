@@ -1,4 +1,3 @@
-use Rattle.std.proofs.Common.{◌^◌, ◌<◌, length}
 use Rattle.task.specs.View.{task_contents}
 use Rattle.examine.specs.Findings.{shown}
 use Rattle.writer.proofs.Outcome.{refused, wrote}

@@ -1,5 +1,6 @@
 -- The law, one level up.
-use base.Logic.{emp, emp∗, sep, via, mono_l}
+use base.Logic.{ent, emp, emp∗, sep, via, mono_l}
+use contract.Fact.{fact}
 use contract.Monad.{fact_i}
 use Rattle.std.proofs.Common.{rules}
 use borrow.Fn.Written as Written
@@ -20,10 +21,13 @@ use Rattle.bench.proofs.bench.Bench.new.Tie as tie
 returns : tie.Need-returns
 returns c = search rules
 
-passes : (w : World) → Written.Passes 0 Kinds.ps Kinds.r Reads.Ghost Reads.requires Reads.ensures Reads.pre_read Reads.Pinned Reads.Owned Reads.post_read w
-passes w κs a g r ws ft p q =
+stands : (w : World) → ent w.𝓤 (emp w.𝓤) (sep w.𝓤 (fact w.𝓤 EveryHistoryStands) (emp w.𝓤))
+stands w =
     via w.𝓤 (sep w.𝓤 (emp w.𝓤) (emp w.𝓤)) (emp∗ w.𝓤 (emp w.𝓤))
     (mono_l w.𝓤 (emp w.𝓤) (fact_i w.𝓤 EveryHistoryStands (emp w.𝓤) every_history))
+
+passes : (w : World) → Written.Passes 0 Kinds.ps Kinds.r Reads.Ghost Reads.requires Reads.ensures Reads.pre_read Reads.Pinned Reads.Owned Reads.post_read w
+passes w κs a g r ws ft p q = via w.𝓤 (sep w.𝓤 (emp w.𝓤) (emp w.𝓤)) (emp∗ w.𝓤 (emp w.𝓤)) (mono_l w.𝓤 (emp w.𝓤) (stands w))
 
 pub new_spec : {M : Type 1} → statement M
 unfolding Running.tables_of

@@ -9,11 +9,11 @@ use Rattle.bench.proofs.stage.WalkedTask.step.Goals as goal
 pub invariant_of-self-2 : goal.invariant_of-self-2
 invariant_of-self-2 c =
     let x = c.args.self.now in
-    let t = task_contents x.examined.task in (
-      still_open t (shown t x.examined.found) (run_of x.walk) c.args.block x.examined.task.«record».ranges (omega arith) x.examined.backed x.«open»
-          c.step.result (run_of c.step.new.self) c.step.ensures.goes,
-      tt,
-    )
+    let t = task_contents x.examined.task in
+    record {
+      «open» = still_open t (shown t x.examined.found) (run_of x.walk) c.args.block x.examined.task.«record».ranges (omega arith) x.examined.backed x.«open»
+          c.step.result (run_of c.step.new.self) c.step.ensures.goes;
+    }
 
 pub returns : goal.returns
 returns c =
