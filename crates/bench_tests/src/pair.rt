@@ -8,6 +8,8 @@ use facts::Facts;
 use last_line_kind::LastLine;
 use records::parts::Geometry;
 use slot_kind::SlotState;
+use std::alloc::AllocGlobal;
+use std::process::Abort;
 use std::test::*;
 
 // The byte that a buffer is filled with before it is handed in.
@@ -34,16 +36,21 @@ fn is_laid(answer: Verdict, buffer: &[u8], text: &[u8]) -> bool {
     true
 }
 
-fn write(rt: &HostRuntime, bench: &Bench, text: &[u8], room: usize) -> Result<Verdict, Fail> {
+fn write(
+    rt: &(impl Abort + AllocGlobal),
+    bench: &Bench,
+    text: &[u8],
+    room: usize,
+) -> Result<Verdict, Fail> {
     let mut buffer = vec![in rt.alloc(); FILLER; room]?;
     let answer = bench.write(&mut buffer);
-    assert!(answer.unwrap_or(text.len()) == text.len());
-    assert!(is_laid(verdict(answer), buffer.as_slice(), text));
+    assert!(rt; answer.unwrap_or(text.len()) == text.len());
+    assert!(rt; is_laid(verdict(answer), buffer.as_slice(), text));
     Ok(verdict(answer))
 }
 
 fn list(
-    rt: &HostRuntime,
+    rt: &(impl Abort + AllocGlobal),
     bench: &Bench,
     text: &[u8],
     block: usize,
@@ -51,14 +58,14 @@ fn list(
 ) -> Result<Verdict, Fail> {
     let mut buffer = vec![in rt.alloc(); FILLER; room]?;
     let answer = bench.list(block, &mut buffer);
-    assert!(answer.unwrap_or(text.len()) == text.len());
-    assert!(is_laid(verdict(answer), buffer.as_slice(), text));
+    assert!(rt; answer.unwrap_or(text.len()) == text.len());
+    assert!(rt; is_laid(verdict(answer), buffer.as_slice(), text));
     Ok(verdict(answer))
 }
 
 // Examines with a working list of so many states, which a refusal leaves as they are.
 fn examine<K: CacheState>(
-    rt: &HostRuntime,
+    rt: &(impl Abort + AllocGlobal),
     bench: &mut Bench,
     passes: u32,
     states: usize,
@@ -74,12 +81,13 @@ fn examine<K: CacheState>(
     for state in work.as_slice() {
         kept = kept && state.rank(geometry) == open.rank(geometry);
     }
-    assert!(answer.is_ok() || kept);
-    assert!(answer.unwrap_or(passes) == passes);
+    assert!(rt; answer.is_ok() || kept);
+    assert!(rt; answer.unwrap_or(passes) == passes);
     Ok(verdict(answer))
 }
 
 fn ask(
+    rt: &impl Abort,
     bench: &Bench,
     letters: &str,
     block: usize,
@@ -88,15 +96,15 @@ fn ask(
 ) -> Result<Verdict, Fail> {
     let answer = bench.ask(block, u32::try_from(fetch)?, level);
     if let Ok(category) = answer {
-        assert_eq!(category.letters(), letters);
+        assert_eq!(rt; category.letters(), letters);
     }
     Ok(verdict(answer))
 }
 
-fn figure(bench: &Bench, found: Found) -> Result<Verdict, Fail> {
+fn figure(rt: &impl Abort, bench: &Bench, found: Found) -> Result<Verdict, Fail> {
     let answer = bench.figure();
     if let Ok(figures) = answer {
-        assert_eq!(
+        assert_eq!(rt;
             (figures.cycles, figures.greatest),
             (found.cycles, found.greatest)
         );
@@ -105,21 +113,26 @@ fn figure(bench: &Bench, found: Found) -> Result<Verdict, Fail> {
 }
 
 // Where the walk stands, which is never beyond the figures.
-fn stand(bench: &Bench, walk: &Walk, found: Found) -> Result<Verdict, Fail> {
+fn stand(rt: &impl Abort, bench: &Bench, walk: &Walk, found: Found) -> Result<Verdict, Fail> {
     let answer = bench.stand();
     if let Ok(standing) = answer {
-        assert_eq!(
+        assert_eq!(rt;
             [standing.cycles, standing.misses, standing.fetches],
             [walk.cycles as u64, walk.misses as u64, walk.fetches as u64]
         );
-        assert!(standing.block == walk.block);
-        assert!(standing.cycles <= found.cycles && standing.misses <= found.greatest.0);
+        assert!(rt; standing.block == walk.block);
+        assert!(rt; standing.cycles <= found.cycles && standing.misses <= found.greatest.0);
     }
     Ok(verdict(answer))
 }
 
 // Makes a call on the bench, once the model has taken it, and compares what it hands back.
-fn make(rt: &HostRuntime, bench: &mut Bench, model: &Model, call: Call) -> Result<Verdict, Fail> {
+fn make(
+    rt: &(impl Abort + AllocGlobal),
+    bench: &mut Bench,
+    model: &Model,
+    call: Call,
+) -> Result<Verdict, Fail> {
     match call {
         Call::Load(number) => Ok(verdict(bench.load(record(number).text.as_bytes()))),
         Call::Examine(Kind::Slot, states) => {
@@ -135,9 +148,10 @@ fn make(rt: &HostRuntime, bench: &mut Bench, model: &Model, call: Call) -> Resul
         Call::Step(block) => Ok(verdict(bench.step(block))),
         Call::Close => Ok(verdict(bench.close())),
         Call::Write(room) => write(rt, bench, model.written(), room),
-        Call::Figure => figure(bench, model.found()),
+        Call::Figure => figure(rt, bench, model.found()),
         Call::Ask(block, fetch, level) => {
             ask(
+                rt,
                 bench,
                 model.category(block, fetch, level),
                 block,
@@ -146,20 +160,23 @@ fn make(rt: &HostRuntime, bench: &mut Bench, model: &Model, call: Call) -> Resul
             )
         }
         Call::List(block, room) => list(rt, bench, model.listed(block), block, room),
-        Call::Stand => stand(bench, &model.walk, model.found()),
+        Call::Stand => stand(rt, bench, &model.walk, model.found()),
     }
 }
 
 // Makes a call on both. After it they stand alike.
 pub fn take(
-    rt: &HostRuntime,
+    rt: &(impl Abort + AllocGlobal),
     bench: &mut Bench,
     model: &mut Model,
     call: Call,
 ) -> Result<Verdict, Fail> {
     let expected = model.answer(rt.alloc(), call)?;
-    assert_eq!(make(rt, bench, model, call)?, expected);
-    assert_eq!(figure(bench, model.found())?, model.figure());
-    assert_eq!(stand(bench, &model.walk, model.found())?, model.stand());
+    assert_eq!(rt; make(rt, bench, model, call)?, expected);
+    assert_eq!(rt; figure(rt, bench, model.found())?, model.figure());
+    assert_eq!(rt;
+        stand(rt, bench, &model.walk, model.found())?,
+        model.stand()
+    );
     Ok(expected)
 }

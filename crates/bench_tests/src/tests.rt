@@ -3,14 +3,16 @@ use crate::model::*;
 use crate::pair::take;
 use crate::samples::*;
 use bench::bench::Bench;
+use std::alloc::AllocGlobal;
+use std::process::Abort;
 use std::test::*;
 
 // Takes the calls of a list, each with its answer.
-fn follow(rt: &HostRuntime, list: &[(Call, Verdict)]) -> Result<Bench, Fail> {
+fn follow(rt: &(impl Abort + AllocGlobal), list: &[(Call, Verdict)]) -> Result<Bench, Fail> {
     let mut bench = Bench::new(rt.alloc());
     let mut model = Model::new(rt.alloc())?;
     for (call, expected) in list {
-        assert_eq!(take(rt, &mut bench, &mut model, *call)?, *expected);
+        assert_eq!(rt; take(rt, &mut bench, &mut model, *call)?, *expected);
     }
     Ok(bench)
 }
@@ -238,7 +240,7 @@ impl Lots {
 }
 
 // Takes calls drawn by lot, and counts how often each number of refusal was answered; 0 stands for none.
-fn follow_lots(rt: &HostRuntime, seen: &mut [usize; 21]) -> Result<(), Fail> {
+fn follow_lots(rt: &(impl Abort + AllocGlobal), seen: &mut [usize; 21]) -> Result<(), Fail> {
     let mut bench = Bench::new(rt.alloc());
     let mut model = Model::new(rt.alloc())?;
     let mut lots = Lots(2026);

@@ -1,6 +1,6 @@
 -- Settled states against the walks of a task.
 use Rattle.std.proofs.Common.{◌≡◌, ℕ, suc, ◌<◌, ◌⊎◌, List, [], ◌∷◌, length, sym, refl, ap, ◌∙◌, subst, inl, inr, arith}
-use Rattle.std.specs.List.{AllByRecursion as All}
+use Rattle.std.specs.List.{AllByRecursion}
 use Rattle.std.proofs.lemmas.Bool.{cases_eq, eq-eqb, ne_eqb}
 use Rattle.records.specs.declared.parts.Block.{Block}
 use Rattle.records.specs.declared.parts.Loop.{Loop}
@@ -39,14 +39,14 @@ module _ {K : Type 0} {k : Kind K} (laws : Lawful k) (bs : List Block) (xs : Lis
   gathered_over x [] = laws.idem x
   gathered_over x (p ∷ ps) = above_then laws (gathered_over (k.joined x (end_state k bs xs p)) ps) (above_left laws x (end_state k bs xs p))
 
-  pub gathered_above : (x : K) (ps : List ℕ) → All (λ p. Above k (gathered k bs xs x ps) (end_state k bs xs p)) ps
+  pub gathered_above : (x : K) (ps : List ℕ) → AllByRecursion (λ p. Above k (gathered k bs xs x ps) (end_state k bs xs p)) ps
   gathered_above x [] = tt
   gathered_above x (p ∷ ps) = (
     above_then laws (gathered_over (k.joined x (end_state k bs xs p)) ps) (above_right laws x (end_state k bs xs p)),
     gathered_above (k.joined x (end_state k bs xs p)) ps,
   )
 
-  gathered_joined : (W : K → Type 0) (ps : List ℕ) → All (λ p. Joined k W (end_state k bs xs p)) ps → (x : K) → Joined k W x → Joined k W (gathered k bs xs x ps)
+  gathered_joined : (W : K → Type 0) (ps : List ℕ) → AllByRecursion (λ p. Joined k W (end_state k bs xs p)) ps → (x : K) → Joined k W x → Joined k W (gathered k bs xs x ps)
   gathered_joined W [] a x j = j
   gathered_joined W (p ∷ ps) a x j = gathered_joined W ps a.1 (k.joined x (end_state k bs xs p)) (two_of j a.0)
 

@@ -1,6 +1,6 @@
 -- What passes keep, and that they end.
 use Rattle.std.proofs.Common.{◌≡◌, ℕ, zero, suc, ◌+◌, ◌<◌, ◌≤◌, true, false, eqb, ◌⊎◌, List, [], ◌∷◌, length, set, sum_by, sym, refl, ◌∙◌, subst, inl, inr, not-suc-le-zero, arith, length-set}
-use Rattle.std.specs.List.{AllByRecursion as All}
+use Rattle.std.specs.List.{AllByRecursion}
 use Rattle.std.proofs.lemmas.Bool.{cases_Bool, eqb-true, eq-eqb, and_parts, and_from}
 use Rattle.std.proofs.lemmas.List.Sums.{sum_by-cons, sum_by-set}
 use Rattle.std.proofs.ByRecursion.{All-weaker}
@@ -17,7 +17,7 @@ module _ {K : Type 0} (k : Kind K) (r : Region) (Q : ℕ → K → Type 0)
   abbrev Held : List K → Type 0
   Held xs = (i : ℕ) → Q i (state_at k xs i)
 
-  gathered_kept : (b : ℕ) (xs : List K) → Held xs → (ps : List ℕ) → All (λ p. Precedes r p b) ps → (x : K) → Q b x → Q b (gathered k r.blocks xs x ps)
+  gathered_kept : (b : ℕ) (xs : List K) → Held xs → (ps : List ℕ) → AllByRecursion (λ p. Precedes r p b) ps → (x : K) → Q b x → Q b (gathered k r.blocks xs x ps)
   gathered_kept b xs h [] a x q = q
   gathered_kept b xs h (p ∷ ps) a x q =
       gathered_kept b xs h ps a.1 (k.joined x (end_state k r.blocks xs p)) (step p b x (state_at k xs p) a.0 q (h p))
@@ -85,7 +85,7 @@ module _ {K : Type 0} (k : Kind K) where
 
 -- no predecessor of a block of bs has anything to add
 abbrev pub Quiet : {K : Type 0} → Kind K → Region → List ℕ → List K → Type 0
-Quiet k r bs xs = All (λ b. All (λ p. Above k (state_at k xs b) (end_state k r.blocks xs p)) (predecessors r b)) bs
+Quiet k r bs xs = AllByRecursion (λ b. AllByRecursion (λ p. Above k (state_at k xs b) (end_state k r.blocks xs p)) (predecessors r b)) bs
 
 module _ {K : Type 0} {k : Kind K} (laws : Lawful k) (r : Region) where
   pub end_alike : (xs ys : List K) (p : ℕ) → Alike k (state_at k xs p) (state_at k ys p) → Alike k (end_state k r.blocks xs p) (end_state k r.blocks ys p)
@@ -93,8 +93,8 @@ module _ {K : Type 0} {k : Kind K} (laws : Lawful k) (r : Region) where
 
   pub quiet_alike : (bs : List ℕ) (xs ys : List K) → ((i : ℕ) → Alike k (state_at k xs i) (state_at k ys i)) → Quiet k r bs xs → Quiet k r bs ys
   quiet_alike bs xs ys near =
-      All-weaker (λ b. All (λ p. Above k (state_at k xs b) (end_state k r.blocks xs p)) (predecessors r b))
-      (λ b. All (λ p. Above k (state_at k ys b) (end_state k r.blocks ys p)) (predecessors r b))
+      All-weaker (λ b. AllByRecursion (λ p. Above k (state_at k xs b) (end_state k r.blocks xs p)) (predecessors r b))
+      (λ b. AllByRecursion (λ p. Above k (state_at k ys b) (end_state k r.blocks ys p)) (predecessors r b))
       (λ b. All-weaker (λ p. Above k (state_at k xs b) (end_state k r.blocks xs p)) (λ p. Above k (state_at k ys b) (end_state k r.blocks ys p))
       (λ p. above_alike laws (near b) (end_alike xs ys p (near p))) (predecessors r b))
       bs
@@ -108,7 +108,7 @@ module _ {K : Type 0} {k : Kind K} (laws : Lawful k) (r : Region) where
   either_falls (inr l) (inr m) = inr (omega arith)
 
   gathered_falls : (xs : List K) (x : K) (ps : List ℕ)
-      → (Alike k (gathered k r.blocks xs x ps) x × All (λ p. Above k x (end_state k r.blocks xs p)) ps)
+      → (Alike k (gathered k r.blocks xs x ps) x × AllByRecursion (λ p. Above k x (end_state k r.blocks xs p)) ps)
       ⊎ (k.ranked (gathered k r.blocks xs x ps) < k.ranked x)
   gathered_falls xs x [] = inl (alike_self x, tt)
   gathered_falls xs x (p ∷ ps) =
@@ -132,7 +132,7 @@ module _ {K : Type 0} {k : Kind K} (laws : Lawful k) (r : Region) where
     pub equal : rank_sum k ys ≡ rank_sum k xs
 
   turn_still : (b : ℕ) (bs : List ℕ) (xs ys : List K) (z : K) → b < length xs → Alike k z (state_at k xs b)
-      → All (λ p. Above k (state_at k xs b) (end_state k r.blocks xs p)) (predecessors r b) → Still bs (set xs b z) ys → Still (b ∷ bs) xs ys
+      → AllByRecursion (λ p. Above k (state_at k xs b) (end_state k r.blocks xs p)) (predecessors r b) → Still bs (set xs b z) ys → Still (b ∷ bs) xs ys
   turn_still b bs xs ys z l a q s =
       let near : (i : ℕ) → Alike k (state_at k (set xs b z) i) (state_at k xs i) =
       set-each k.nothing_yet (λ i y. Alike k y (state_at k xs i)) xs b z (λ i. alike_self (state_at k xs i)) a in
@@ -142,13 +142,13 @@ module _ {K : Type 0} {k : Kind K} (laws : Lawful k) (r : Region) where
         equal = let e = s.equal in let f = sum_by-set k.ranked xs b z k.nothing_yet l in let g = laws.level z (state_at k xs b) a in omega arith;
       }
 
-  pub turns_fall : (bs : List ℕ) (xs : List K) → All (λ b. b < length xs) bs → Still bs xs (turns k r bs xs) ⊎ (rank_sum k (turns k r bs xs) < rank_sum k xs)
+  pub turns_fall : (bs : List ℕ) (xs : List K) → AllByRecursion (λ b. b < length xs) bs → Still bs xs (turns k r bs xs) ⊎ (rank_sum k (turns k r bs xs) < rank_sum k xs)
   turns_fall [] xs h = inl (record { alike = λ i. alike_self (state_at k xs i); quiet = tt; equal = refl })
   turns_fall (b ∷ bs) xs h =
       let z : K = gathered k r.blocks xs (state_at k xs b) (predecessors r b) in
       let sum : rank_sum k (set xs b z) + k.ranked (state_at k xs b) ≡ rank_sum k xs + k.ranked z = sum_by-set k.ranked xs b z k.nothing_yet h.0 in
       let rest : Still bs (set xs b z) (turns k r bs (set xs b z)) ⊎ (rank_sum k (turns k r bs (set xs b z)) < rank_sum k (set xs b z)) =
-      turns_fall bs (set xs b z) (subst (λ n. All (λ c. c < n) bs) (sym (length-set xs b z)) h.1) in
+      turns_fall bs (set xs b z) (subst (λ n. AllByRecursion (λ c. c < n) bs) (sym (length-set xs b z)) h.1) in
       elim (gathered_falls xs (state_at k xs b) (predecessors r b)) [
         | inl a ↦ elim rest [
           | inl s ↦ inl (turn_still b bs xs (turns k r bs (set xs b z)) z h.0 a.0 a.1 s)

@@ -1,6 +1,6 @@
 -- Lists of states place by place, and the predecessors of a block as edges.
 use Rattle.std.proofs.Common.{◌≡◌, ℕ, zero, suc, ◌+◌, ◌-◌, ◌<◌, ◌≤◌, Bool, true, false, not, ◌&&◌, eqb, List, [], ◌∷◌, length, get_or, set, replicate, sym, refl, subst, inl, inr, le_of_suc-le-suc, not-suc-le-zero, arith}
-use Rattle.std.specs.List.{range_with_len, AllByRecursion as All}
+use Rattle.std.specs.List.{range_with_len, AllByRecursion}
 use Rattle.std.proofs.lemmas.Bool.{cases_Bool, cases_eq, eqb-true, eqb-false, eq-eqb, ne_eqb, and_parts, and_from, not-true, not_from_false}
 use Rattle.records.specs.declared.parts.Loop.{Loop}
 use Rattle.records.specs.declared.parts.Edge.{Edge}
@@ -23,30 +23,30 @@ replicate-each d Q q (suc n) zero = q
 replicate-each d Q q (suc n) (suc i) = replicate-each d Q q n i
 
 -- a list of consecutive numbers
-pub all-counting : (P : ℕ → Type 0) (a n : ℕ) → ((b : ℕ) → a ≤ b → b < a + n → P b) → All P (range_with_len a n)
+pub all-counting : (P : ℕ → Type 0) (a n : ℕ) → ((b : ℕ) → a ≤ b → b < a + n → P b) → AllByRecursion P (range_with_len a n)
 all-counting P a zero h = tt
 all-counting P a (suc n) h = (h a (omega arith) (omega arith), all-counting P (a + 1) n (λ b l m. h b (omega arith) (omega arith)))
 
-pub at-counting : (P : ℕ → Type 0) (a n b : ℕ) → All P (range_with_len a n) → a ≤ b → b < a + n → P b
+pub at-counting : (P : ℕ → Type 0) (a n b : ℕ) → AllByRecursion P (range_with_len a n) → a ≤ b → b < a + n → P b
 at-counting P a zero b h l m = absurd (omega arith)
 at-counting P a (suc n) b h l m = elim (cases_eq b a)
     [ inl e ↦ subst P (sym e) h.0 | inr e ↦ at-counting P (a + 1) n b h.1 (omega arith) (omega arith) ]
 
-pub all_blocks : (P : ℕ → Type 0) (l : Loop) → ((b : ℕ) → Within l b → P b) → All P (blocks_of l)
+pub all_blocks : (P : ℕ → Type 0) (l : Loop) → ((b : ℕ) → Within l b → P b) → AllByRecursion P (blocks_of l)
 all_blocks P l h = all-counting P l.header (suc l.last - l.header) (λ b x y. h b (x, omega arith))
 
-pub at_blocks : (P : ℕ → Type 0) (l : Loop) (b : ℕ) → All P (blocks_of l) → Within l b → P b
+pub at_blocks : (P : ℕ → Type 0) (l : Loop) (b : ℕ) → AllByRecursion P (blocks_of l) → Within l b → P b
 at_blocks P l b h w = at-counting P l.header (suc l.last - l.header) b h w.0 (omega arith)
 
 -- what holds where the edges start that pass a test
 module _ (test : Edge → Bool) (P : ℕ → Type 0) where
-  pub starts-all : (es : List Edge) → ((j : ℕ) → j < length es → test (edge_at es j) ≡ true → P (edge_at es j).from) → All P (starts test es)
+  pub starts-all : (es : List Edge) → ((j : ℕ) → j < length es → test (edge_at es j) ≡ true → P (edge_at es j).from) → AllByRecursion P (starts test es)
   starts-all [] h = tt
   starts-all (e ∷ es) h =
       let rest = starts-all es (λ j l. h (suc j) (omega arith)) in
       elim (cases_Bool (test e)) [ inl t ↦ rw (t, starts) (h 0 (omega arith) t, rest) | inr t ↦ rw (t, starts) rest ]
 
-  pub starts_at : (es : List Edge) → All P (starts test es) → (j : ℕ) → j < length es → test (edge_at es j) ≡ true → P (edge_at es j).from
+  pub starts_at : (es : List Edge) → AllByRecursion P (starts test es) → (j : ℕ) → j < length es → test (edge_at es j) ≡ true → P (edge_at es j).from
   starts_at [] h j l t = absurd (not-suc-le-zero l)
   starts_at (e ∷ es) h zero l t = (rw (t, starts) at h).0
   starts_at (e ∷ es) h (suc j) l t =
@@ -60,7 +60,7 @@ abbrev pub Precedes : Region → ℕ → ℕ → Type 0
 Precedes r p b = Leads r.edges p b × Within r.range p × (b ≡ r.range.header → ⊥)
 
 module _ (r : Region) (b : ℕ) (P : ℕ → Type 0) where
-  pub all-predecessors : ((p : ℕ) → Precedes r p b → P p) → All P (predecessors r b)
+  pub all-predecessors : ((p : ℕ) → Precedes r p b → P p) → AllByRecursion P (predecessors r b)
   all-predecessors h = starts-all (leads_on r.range b) P r.edges (λ j l t.
       let e : Edge = edge_at r.edges j in
       let u = and_parts (eqb e.to b) (within r.range e.from && not (eqb b r.range.header)) t in
@@ -71,7 +71,7 @@ module _ (r : Region) (b : ℕ) (P : ℕ → Type 0) where
         eqb-false b r.range.header (not-true (eqb b r.range.header) v.1),
       ))
 
-  pub at_predecessors : All P (predecessors r b) → (p : ℕ) → Precedes r p b → P p
+  pub at_predecessors : AllByRecursion P (predecessors r b) → (p : ℕ) → Precedes r p b → P p
   at_predecessors h p (lead, w, ne) =
       let e : Edge = edge_at r.edges lead.0 in
       subst P lead.2 (starts_at (leads_on r.range b) P r.edges h lead.0 lead.1
@@ -86,13 +86,13 @@ abbrev pub Enters : List Edge → Loop → ℕ → Type 0
 Enters es l p = Leads es p l.header × (Within l p → ⊥)
 
 module _ (es : List Edge) (l : Loop) (P : ℕ → Type 0) where
-  pub all_entering : ((p : ℕ) → Enters es l p → P p) → All P (starts (leads_in l) es)
+  pub all_entering : ((p : ℕ) → Enters es l p → P p) → AllByRecursion P (starts (leads_in l) es)
   all_entering h = starts-all (leads_in l) P es (λ j i t.
       let e : Edge = edge_at es j in
       let u = and_parts (eqb e.to l.header) (not (within l e.from)) t in
       h e.from ((j, i, refl, eqb-true e.to l.header u.0), within_false l e.from (not-true (within l e.from) u.1)))
 
-  pub at_entering : All P (starts (leads_in l) es) → (p : ℕ) → Enters es l p → P p
+  pub at_entering : AllByRecursion P (starts (leads_in l) es) → (p : ℕ) → Enters es l p → P p
   at_entering h p (lead, out) =
       let e : Edge = edge_at es lead.0 in
       let no : within l e.from ≡ false =

@@ -1,7 +1,7 @@
 -- Settling a loop's round: it ends, and its states sum up the ways inside the loop.
 use Rattle.std.proofs.Common.{◌≡◌, ℕ, ◌+◌, ◌*◌, ◌<◌, ◌≤◌, List, [], ◌∷◌, length, replicate, sym, refl, ap, subst, arith, length-set, get_or-set_same}
 use lib.ListN.{length-replicate}
-use Rattle.std.specs.List.{AllByRecursion as All}
+use Rattle.std.specs.List.{AllByRecursion}
 use Rattle.std.proofs.ByRecursion.{All-from_get_or, sum_by_le}
 use Rattle.records.specs.declared.parts.Block.{Block}
 use Rattle.task.specs.Graph.{block_at, Within}
@@ -36,7 +36,7 @@ course_below {k = k} laws dist r xs quiet x a [] b i e = subst (λ c. Above k (s
 course_below {k = k} laws dist r xs quiet x a (p ∷ w) b i m =
     above_then laws
     (at_predecessors r b (λ q. Above k (state_at k xs b) (end_state k r.blocks xs q))
-    (at_blocks (λ c. All (λ q. Above k (state_at k xs c) (end_state k r.blocks xs q)) (predecessors r c)) r.range b quiet i) p m.1)
+    (at_blocks (λ c. AllByRecursion (λ q. Above k (state_at k xs c) (end_state k r.blocks xs q)) (predecessors r c)) r.range b quiet i) p m.1)
     (above_through (passing laws dist p (block_at r.blocks p)) (course_below laws dist r xs quiet x a w p m.1.1 m.0))
 
 module _ {K : Type 0} {k : Kind K} (laws : Lawful k) (r : Region) (entry : K)
@@ -70,7 +70,7 @@ module _ {K : Type 0} {k : Kind K} (laws : Lawful k) (r : Region) (entry : K)
     few = end.1;
     still = λ p b lead i j ne.
         at_predecessors r b (λ q. Above k (state_at k (settled k r entry).0 b) (end_state k r.blocks (settled k r entry).0 q))
-        (at_blocks (λ c. All (λ q. Above k (state_at k (settled k r entry).0 c) (end_state k r.blocks (settled k r entry).0 q)) (predecessors r c))
+        (at_blocks (λ c. AllByRecursion (λ q. Above k (state_at k (settled k r entry).0 c) (end_state k r.blocks (settled k r entry).0 q)) (predecessors r c))
         r.range b end.0 j) p (lead, i, ne);
     fixed = head_kept;
   }

@@ -1,6 +1,6 @@
 -- How long a walk within the limits is, and what it charges where every entry and every stay costs the same.
 use Rattle.std.proofs.Common.{◌≡◌, ℕ, zero, suc, ◌+◌, ◌*◌, ◌<◌, ◌≤◌, Bool, true, false, cond, eqb, ltb, List, [], ◌∷◌, length, sym, refl, subst, inl, inr, le_trans, not-suc-le-zero, mul-le-mul_right, suc-mul, zero-mul, arith}
-use Rattle.std.specs.List.{AllByRecursion as All}
+use Rattle.std.specs.List.{AllByRecursion}
 use Rattle.std.proofs.lemmas.Bool.{cases_eq, cases_lt, cond-true, cond-false, eq-eqb, ne_eqb}
 use Rattle.records.specs.declared.parts.Loop.{Loop}
 use Rattle.records.specs.declared.parts.Edge.{Edge}
@@ -58,7 +58,7 @@ module _ (ls : List Loop) where
   )
 
   -- the visits of all blocks are the blocks visited
-  visits-all : (n : ℕ) (v : List ℕ) → All (λ b. b < n) v → sum_to n (λ x. charge cycles (visits x) ls v) ≡ length v
+  visits-all : (n : ℕ) (v : List ℕ) → AllByRecursion (λ b. b < n) v → sum_to n (λ x. charge cycles (visits x) ls v) ≡ length v
   visits-all n [] h = sum_zero n
   visits-all n (b ∷ w) h =
       let e = sum-add n (λ x. charge cycles (visits x) ls w) (λ x. cond (eqb b x) 1 0) (λ x. charge cycles (visits x) ls (b ∷ w))
@@ -70,7 +70,7 @@ abbrev pub even : ℕ → Costs ℕ
 even s = record { first = λ _. s; later = λ _. s; stay = λ _. s }
 
 module _ {n : ℕ} {ls : List Loop} {es : List Edge} (shape : Shape n ls es) where
-  walk_blocks : (w : List ℕ) (b : ℕ) → Walk es 0 w b → Limited ls (b ∷ w) → All (λ x. x < n) (b ∷ w)
+  walk_blocks : (w : List ℕ) (b : ℕ) → Walk es 0 w b → Limited ls (b ∷ w) → AllByRecursion (λ x. x < n) (b ∷ w)
   walk_blocks [] b u k = ((standing shape [] b u k).block, tt)
   walk_blocks (p ∷ w) b u k = ((standing shape (p ∷ w) b u k).block, walk_blocks w p u.0 k.1)
 

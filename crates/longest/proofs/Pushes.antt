@@ -1,6 +1,6 @@
 -- One round of a loop by its edges: every edge inside it is covered, and what is reached is reached by an edge.
 use Rattle.std.proofs.Common.{◌≡◌, ℕ, zero, suc, ◌<◌, ◌≤◌, Bool, true, false, cond, eqb, ltb, leb, ◌⊎◌, List, [], ◌∷◌, length, get_or, set, sym, refl, ap, ◌∙◌, subst, ap₂, inl, inr, le_of_suc-le-suc, not-suc-le-zero, arith, length-set, get_or-set_other, get_or-set_same}
-use Rattle.std.specs.List.{AllByRecursion as All}
+use Rattle.std.specs.List.{AllByRecursion}
 use Rattle.std.proofs.lemmas.Bool.{cases_Bool, cases_eq, and_parts, and_from, leb-true, ltb-true, eqb-true, le-leb, lt-ltb, eq-eqb}
 use Rattle.records.specs.declared.parts.Loop.{Loop}
 use Rattle.records.specs.declared.parts.Edge.{Edge}
@@ -124,7 +124,7 @@ module _ {T : Type 0} (m : Ops T) where
         ∙ ap (λ (c : Cell T). c.reach) (get_or-set_same s e.to (raised e s) _ (omega (arith, forward_parts l e t)))
 
     -- edges that leave p or later blocks change nothing up to p
-    reach_stable : (es : List Edge) (s : List (Cell T)) (p a : ℕ) → All (λ d. p ≤ d.from) es → a ≤ p
+    reach_stable : (es : List Edge) (s : List (Cell T)) (p a : ℕ) → AllByRecursion (λ d. p ≤ d.from) es → a ≤ p
         → reach_at (round_of m l es s) a ≡ reach_at s a
     reach_stable [] s p a h k = refl
     reach_stable (e ∷ es) s p a h k =
@@ -147,7 +147,7 @@ module _ {T : Type 0} (m : Ops T) where
         value_alike s (pushed m l e s) p (pushed_alike e s room)
         (reach_other e s (cell_at m s p).anchor (λ t q. omega (arith, low p, forward_parts l e t)))
 
-    pub value_round : (es : List Edge) (s : List (Cell T)) (p : ℕ) → All (λ d. p ≤ d.from) es → Low m s → l.last < length s
+    pub value_round : (es : List Edge) (s : List (Cell T)) (p : ℕ) → AllByRecursion (λ d. p ≤ d.from) es → Low m s → l.last < length s
         → value m (round_of m l es s) p ≡ value m s p
     value_round es s p h low room =
         value_alike s (round_of m l es s) p (round_alike es s room) (reach_stable es s p (cell_at m s p).anchor h (low p))

@@ -1,6 +1,6 @@
 -- The sizes of what a search holds are not above what it holds where every cost is the greatest size.
 use Rattle.std.proofs.Common.{◌≡◌, ℕ, zero, suc, ◌+◌, ◌*◌, ◌<◌, ◌≤◌, List, [], ◌∷◌, length, set, sym, refl, ap, ◌∙◌, subst, ap₂, inl, inr, le_trans, suc-mul, mul-le-mul, zero-mul, arith, length-set, get_or-set_other, get_or-set_same}
-use Rattle.std.specs.List.{AllByRecursion as All}
+use Rattle.std.specs.List.{AllByRecursion}
 use Rattle.std.proofs.lemmas.List.FromFn.{length-map-range_with_len}
 use Rattle.std.proofs.lemmas.List.{get_or_past}
 use Rattle.std.proofs.lemmas.Bool.{cases_Bool, cases_eq, cases_lt, cond_both, ltb-false}
@@ -196,7 +196,7 @@ module _ {T : Type 0} {m : Ops T} {size : T → ℕ} (laws : TallyLaws m size) w
       sim : Sim s u
       long : length s ≡ n
 
-    loops_sim : (n : ℕ) (ls : List Loop) (i : ℕ) → ((j : ℕ) → i ≤ j → j < i + length ls → size (stay j) ≤ a) → All (λ l. l.last < n) ls
+    loops_sim : (n : ℕ) (ls : List Loop) (i : ℕ) → ((j : ℕ) → i ≤ j → j < i + length ls → size (stay j) ≤ a) → AllByRecursion (λ l. l.last < n) ls
         → (s : List (Cell T)) (u : List (Cell ℕ)) → LoopsSim n s u
         → LoopsSim n (loops_done m es stay ls i s) (loops_done cycles es (λ _. a) ls i u)
     loops_sim n [] i cheap h s u q = q
@@ -208,7 +208,7 @@ module _ {T : Type 0} {m : Ops T} {size : T → ℕ} (laws : TallyLaws m size) w
           long = done_long l (stay i) a (cheap i (omega arith) (omega arith)) es _ room ∙ r.long;
         }
 
-    pub sim_loops : (n : ℕ) (ls : List Loop) (i : ℕ) → ((j : ℕ) → i ≤ j → j < i + length ls → size (stay j) ≤ a) → All (λ l. l.last < n) ls
+    pub sim_loops : (n : ℕ) (ls : List Loop) (i : ℕ) → ((j : ℕ) → i ≤ j → j < i + length ls → size (stay j) ≤ a) → AllByRecursion (λ l. l.last < n) ls
         → (s : List (Cell T)) (u : List (Cell ℕ)) → Sim s u → length s ≡ n
         → Sim (loops_done m es stay ls i s) (loops_done cycles es (λ _. a) ls i u)
     sim_loops n ls i cheap h s u q e = (loops_sim n ls i cheap h s u (record { sim = q; long = e })).sim

@@ -1,6 +1,6 @@
 -- Where every cost is below 2 to the 32nd, every sum of the search is below 2 to the 63rd.
 use Rattle.std.proofs.Common.{◌≡◌, ℕ, zero, suc, ◌+◌, ◌*◌, ◌^◌, ◌<◌, ◌≤◌, true, false, List, length, drop, sym, refl, subst, inl, inr, arith, length-drop}
-use Rattle.std.specs.List.{AllByRecursion as All}
+use Rattle.std.specs.List.{AllByRecursion}
 use Rattle.std.proofs.ByRecursion.{All-from_get_or, All-drop}
 use Rattle.std.proofs.lemmas.Bool.{cases_eq, ltb-false, lt-ltb}
 use Rattle.records.specs.declared.parts.Loop.{Loop}
@@ -83,7 +83,7 @@ module _ {T : Type 0} {m : Ops T} {size : T → ℕ} (laws : TallyLaws m size) (
     (cheap-stay : (i : ℕ) → i < length ls → size (costs.stay i) ≤ s) where
   held_sim : (i : ℕ) → i ≤ length ls → Sim laws (held m costs n ls es i) (held cycles (even s) n ls es i)
   held_sim i h =
-      let fits : All (λ l. l.last < n) ls =
+      let fits : AllByRecursion (λ l. l.last < n) ls =
       All-from_get_or (λ l. l.last < n) ls (record { header = 0; last = 0; limit = 0 }) (λ j l. (shape.fits j l).1) in
       sim_loops laws es costs.stay s n (drop i ls) i (λ j x y. cheap-stay j (omega (arith, length-drop i ls))) (All-drop _ i ls fits) _ _
       (sim_start laws n costs s cheap) (start_fresh m costs n).long

@@ -1,6 +1,6 @@
 -- What each loop of the search starts from, and the sizes of what it adds up.
 use Rattle.std.specs.Prelude.{◌≡◌, ℕ, suc, ◌+◌, ◌^◌, ◌<◌, ◌≤◌, true, List, [], ◌∷◌, length}
-use Rattle.std.specs.List.{AllByRecursion as All}
+use Rattle.std.specs.List.{AllByRecursion}
 use Rattle.records.specs.declared.parts.Loop.{Loop}
 use Rattle.records.specs.declared.parts.Edge.{Edge}
 use Rattle.records.specs.Contents.{Contents}
@@ -17,7 +17,7 @@ use Rattle.longest.specs.Search.{backward, none_yet, cell_at, value, round_of, t
 -- the edges are listed by the blocks that they leave
 abbrev pub Sorted : List Edge → Type 0
 Sorted [] = Unit {0}
-Sorted (e ∷ es) = All (λ d. e.from ≤ d.from) es × Sorted es
+Sorted (e ∷ es) = AllByRecursion (λ d. e.from ≤ d.from) es × Sorted es
 
 -- the edges back to the loop's header leave blocks of the loop
 abbrev pub BacksInside : Loop → List Edge → Type 0

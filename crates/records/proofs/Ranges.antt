@@ -1,7 +1,7 @@
 -- The format of a record as plain inequalities.
 use Rattle.std.proofs.Common.{◌≡◌, ℕ, ◌-◌, ◌≤◌, Bool, true, ◌&&◌, leb, List, [], ◌∷◌, ◌++◌, map, length, codes}
 use Rattle.std.proofs.lemmas.Bool.{and_parts, leb-true}
-use Rattle.std.specs.List.{AllByRecursion as All}
+use Rattle.std.specs.List.{AllByRecursion}
 use Rattle.std.proofs.ByRecursion.{All-weaker}
 use Rattle.syntax.specs.Line.{Form, in_ranges, short}
 use Rattle.syntax.specs.Format.{Format, lines, follows}
@@ -45,11 +45,11 @@ pub record Ranges (c : Contents) : Type 0 where
   pub header : HeaderRange c.header
   pub some : 1 ≤ length c.blocks
   pub few_blocks : length c.blocks ≤ 128
-  pub blocks : All BlockRange c.blocks
+  pub blocks : AllByRecursion BlockRange c.blocks
   pub few_loops : length c.loops ≤ 15
-  pub loops : All (LoopRange (length c.blocks)) c.loops
+  pub loops : AllByRecursion (LoopRange (length c.blocks)) c.loops
   pub few_edges : length c.edges ≤ 512
-  pub edges : All (EdgeRange (length c.blocks)) c.edges
+  pub edges : AllByRecursion (EdgeRange (length c.blocks)) c.edges
 
 pub between_parts : (low high x : ℕ) → between low high x ≡ true → (low ≤ x) × (x ≤ high)
 between_parts low high x h =
@@ -67,7 +67,7 @@ first_line f next fs more h =
 -- as many lines of one form as the list has entries, and the lines after them
 pub listed_lines : {X : Type 0} (f : Form) (row : X → List ℕ) (xs : List X) (rest : Format) (more : List (List ℕ))
     → follows (lines (length xs) f rest) (map row xs ++ more) ≡ true
-    → All (λ x. (short (row x) ≡ true) × (in_ranges f.ranges (row x) ≡ true)) xs × (follows rest more ≡ true)
+    → AllByRecursion (λ x. (short (row x) ≡ true) × (in_ranges f.ranges (row x) ≡ true)) xs × (follows rest more ≡ true)
 listed_lines f row [] rest more h = (tt, h)
 listed_lines f row (x ∷ xs) rest more h =
     let p = first_line f (λ _. lines (length xs) f rest) (row x) (map row xs ++ more) h in
@@ -116,7 +116,7 @@ number_line key range next x more h =
 -- the counted edges
 record Edges (n : ℕ) (es : List Edge) : Type 0 where
   few : length es ≤ 512
-  each : All (EdgeRange n) es
+  each : AllByRecursion (EdgeRange n) es
 
 edges_of : (n : ℕ) (es : List Edge) → follows (edges_format n) (counted edge_row es []) ≡ true → Edges n es
 edges_of n es h =
@@ -130,7 +130,7 @@ edges_of n es h =
 -- the counted loops, and the edges after them
 record Loops (n : ℕ) (ls : List Loop) (es : List Edge) : Type 0 where
   few : length ls ≤ 15
-  each : All (LoopRange n) ls
+  each : AllByRecursion (LoopRange n) ls
   edges : Edges n es
 
 loops_of : (n : ℕ) (ls : List Loop) (es : List Edge) → follows (loops_format n) (counted loop_row ls (counted edge_row es [])) ≡ true → Loops n ls es

@@ -2,10 +2,12 @@ use crate::every_walk::{first_cost, greatest, later_cost, stay_cost};
 use load::load;
 use longest::{ByRound, Cell};
 use search::greatest_charge;
+use std::alloc::AllocGlobal;
+use std::process::Abort;
 use std::test::*;
 
 // The search's answer for a record, with the made-up costs.
-fn searched(rt: &HostRuntime, text: &[u8]) -> Result<u64, Fail> {
+fn searched(rt: &impl AllocGlobal, text: &[u8]) -> Result<u64, Fail> {
     let Ok(task) = load(rt.alloc(), text) else {
         return Err(Fail::new("refused"));
     };
@@ -38,15 +40,15 @@ fn searched(rt: &HostRuntime, text: &[u8]) -> Result<u64, Fail> {
 }
 
 // Every walk of the record has at most `steps` steps: one more finds nothing greater.
-fn walked(rt: &HostRuntime, text: &[u8], steps: u32) -> Result<u64, Fail> {
+fn walked(rt: &impl AllocGlobal, text: &[u8], steps: u32) -> Result<u64, Fail> {
     let Ok(task) = load(rt.alloc(), text) else {
         return Err(Fail::new("refused"));
     };
     Ok(greatest(&task, steps))
 }
 
-fn compare(rt: &HostRuntime, text: &[u8], steps: u32) -> Result<(), Fail> {
-    assert_eq!(searched(rt, text)?, walked(rt, text, steps)?);
+fn compare(rt: &(impl Abort + AllocGlobal), text: &[u8], steps: u32) -> Result<(), Fail> {
+    assert_eq!(rt; searched(rt, text)?, walked(rt, text, steps)?);
     Ok(())
 }
 

@@ -1,6 +1,6 @@
 -- The steps of the code against the definition of settling.
 use Rattle.std.proofs.Common.{◌≡◌, ℕ, zero, suc, ◌+◌, ◌-◌, ◌*◌, ◌<◌, ◌≤◌, Bool, true, false, not, ◌&&◌, eqb, ltb, leb, ◌≢◌, ◌⊎◌, List, [], ◌∷◌, ◌++◌, length, get_or, take, drop, set, replicate, Some, sym, refl, ap, ◌∙◌, subst, ap₂, inl, inr, le_of_suc-le-suc, not-suc-le-zero, mul-le-mul, arith}
-use Rattle.std.specs.List.{range_with_len, AllByRecursion as All}
+use Rattle.std.specs.List.{range_with_len, AllByRecursion}
 use Rattle.std.proofs.ByRecursion.{sum_by_le}
 use Rattle.std.proofs.lemmas.List.{at_drop_more, at_drop_all, get_or_read, get_or-set_same, get_or-set_other, length-take-le}
 use Rattle.std.proofs.lemmas.Bool.{cases_Bool, cases_eq, cases_lt, both_ways, not-true, not-false, and_parts, and_from, and_left, leb-true, ltb-true, eqb-true}
@@ -185,7 +185,7 @@ module _ {K : Type 0} (k : Kind K) (r : Region) (fuel : ℕ) (xs ys zs : List K)
 pub ranks_low : {K : Type 0} {k : Kind K} → Lawful k → (xs : List K) → rank_sum k xs ≤ length xs * k.height
 ranks_low {k = k} laws xs = sum_by_le k.ranked k.height xs (all-each xs)
   where
-    all-each : (ys : List _) → All (λ y. k.ranked y ≤ k.height) ys
+    all-each : (ys : List _) → AllByRecursion (λ y. k.ranked y ≤ k.height) ys
     all-each [] = tt
     all-each (y ∷ ys) = (laws.bounded y, all-each ys)
 

@@ -1,6 +1,6 @@
 -- The loops around a block, one loop after the other.
 use Rattle.std.proofs.Common.{◌≡◌, ℕ, ◌+◌, ◌*◌, ◌<◌, ◌≤◌, Bool, true, false, List, [], ◌∷◌, length, drop, sym, refl, ap, ◌∙◌, mul_assoc, mul-pos, mul-one, le-mul_of_pos_right, arith}
-use Rattle.std.specs.List.{AllByRecursion as All}
+use Rattle.std.specs.List.{AllByRecursion}
 use Rattle.std.proofs.lemmas.List.{at_drop_more, at_drop_all}
 use Rattle.std.proofs.ByRecursion.{All-from_get_or, All-drop}
 use Rattle.records.specs.declared.parts.Loop.{Loop}
@@ -39,7 +39,7 @@ pub limits-all : (ls : List Loop) (i b p : ℕ) → length ls ≤ i → p * limi
 limits-all ls i b p h = ap (λ xs. p * product xs) (around-all ls i b h) ∙ mul-one p
 
 -- no limit is 0, so no product of limits is
-limits_pos : (ls : List Loop) (b : ℕ) → All (λ l. 1 ≤ l.limit) ls → 1 ≤ limits ls b
+limits_pos : (ls : List Loop) (b : ℕ) → AllByRecursion (λ l. 1 ≤ l.limit) ls → 1 ≤ limits ls b
 limits_pos [] b h = omega arith
 limits_pos (l ∷ ls) b h = go (within l b) refl (limits_pos ls b h.1)
   where

@@ -1,6 +1,6 @@
 -- How long the text of a record can be.
 use Rattle.std.proofs.Common.{◌≡◌, ℕ, ◌+◌, ◌*◌, ◌^◌, ◌<◌, ◌≤◌, true, eqb, List, [], ◌∷◌, ◌++◌, length, codes, decimal, ap, ◌∙◌, inl, inr, suc-mul, arith, length-append}
-use Rattle.std.specs.List.{AllByRecursion as All}
+use Rattle.std.specs.List.{AllByRecursion}
 use Rattle.std.proofs.ByRecursion.{All-weaker}
 use Rattle.std.proofs.lemmas.Fmt.{length-decimal-le}
 use Rattle.std.proofs.lemmas.Bool.{or_cases, eqb-true}
@@ -16,7 +16,7 @@ use Rattle.writer.specs.Parts.{header_text, rows_text, list_text}
 use Rattle.writer.proofs.Parts.{line-append, blocks_text, loops_text, edges_text, record_parts}
 
 -- a number of a list is at most what the list is at most
-one_of_most : (m : ℕ) (ys : List ℕ) (x : ℕ) → All (λ y. y ≤ m) ys → one_of ys x ≡ true → x ≤ m
+one_of_most : (m : ℕ) (ys : List ℕ) (x : ℕ) → AllByRecursion (λ y. y ≤ m) ys → one_of ys x ≡ true → x ≤ m
 one_of_most m [] x h e = let z : ◌≡◌ {A = ℕ} 0 1 = cc in absurd (omega arith)
 one_of_most m (y ∷ ys) x h e = elim (or_cases (eqb x y) (one_of ys x) e) [
   | inl p ↦ omega (arith, eqb-true x y p, h.0)
@@ -59,7 +59,7 @@ edge-length n few e r =
     simp length-append (omega arith)
 
 -- lines of at most k bytes each
-rows-length : {X : Type 0} (key : List ℕ) (row : X → List ℕ) (k : ℕ) (xs : List X) → All (λ x. length (line_text key (row x) []) ≤ k) xs → length (rows_text key row xs) ≤ length xs * k
+rows-length : {X : Type 0} (key : List ℕ) (row : X → List ℕ) (k : ℕ) (xs : List X) → AllByRecursion (λ x. length (line_text key (row x) []) ≤ k) xs → length (rows_text key row xs) ≤ length xs * k
 rows-length key row k [] h = omega arith
 rows-length key row k (x ∷ xs) h =
     let rest = rows_text key row xs in
@@ -67,7 +67,7 @@ rows-length key row k (x ∷ xs) h =
     omega (arith, whole, h.0, rows-length key row k xs h.1, suc-mul (length xs) k)
 
 -- a counted list of fewer than 10 ^ 8 of them
-list_length : {X : Type 0} (heading key : List ℕ) (row : X → List ℕ) (k : ℕ) (xs : List X) → length xs < 10 ^ 8 → All (λ x. length (line_text key (row x) []) ≤ k) xs
+list_length : {X : Type 0} (heading key : List ℕ) (row : X → List ℕ) (k : ℕ) (xs : List X) → length xs < 10 ^ 8 → AllByRecursion (λ x. length (line_text key (row x) []) ≤ k) xs
     → length (list_text heading key row xs) ≤ length heading + 9 + length xs * k
 list_length heading key row k xs few h =
     let count = eight (length xs) few in
