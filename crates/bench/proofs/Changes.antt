@@ -23,7 +23,7 @@ use Rattle.examine.specs.Findings.{Findings, shown}
 use Rattle.calls.specs.declared.call.Call.TheVariants.{Load, Examine}
 use Rattle.calls.specs.declared.fault.BenchFault.TheVariants.{TooShort}
 use Rattle.calls.specs.declared.refusal.Refusal.{Refusal}
-use Rattle.calls.specs.declared.refusal.Refusal.TheVariants.{Bench, NoMemory}
+use Rattle.calls.specs.declared.refusal.Refusal.TheVariants.{Bench}
 use Rattle.calls.specs.Held.{Backed, Open}
 use Rattle.calls.specs.Outcomes.{Loaded, LoadCall, Examines, ExamineCall, StepCall}
 use Rattle.calls.specs.Refusal.{carried, examine_fault, step_fault}

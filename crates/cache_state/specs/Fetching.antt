@@ -1,5 +1,5 @@
 -- The laws of a kind of cache state. With `spreading`, that each fetch distributes, the law `distributing` of a kind
--- whose `passed` is `fetch_all fetched (fetch_lines g c)` follows (`passing-distributes` in proofs/Fetches.antt).
+-- whose `passed` is `fetch_all fetched (fetch_lines g c)` follows (`passing_distributes` in proofs/Fetches.antt).
 use Rattle.std.specs.Prelude.{◌≡◌, ℕ, Bool, ◌↔◌, length, take}
 use Rattle.records.specs.declared.parts.Geometry.{Geometry}
 use Rattle.records.specs.declared.parts.Block.{Block}

@@ -1,5 +1,5 @@
--- The laws of a kind of facts. An implementation gives its `kind` by definitions in its own specs/, and answers `lawful`
--- and `distributing` by these records in proofs/NAME/TheImpl/Answers.antt. They are owed of every value of the state's
+-- The laws of a kind of facts. An implementation gives its `kind` by definitions in its own specs/, and `lawful`
+-- and `distributing` by these records, which it proves there too. They are owed of every value of the state's
 -- type, also of those that no code makes: so let the definitions read a state only where the geometry has a place.
 use Rattle.std.specs.Prelude.{◌≡◌, ℕ, ◌<◌, ◌≤◌, true, ◌&&◌, ◌⊎◌}
 use Rattle.records.specs.declared.parts.Block.{Block}

@@ -8,6 +8,7 @@ use crate::commands::obey;
 use anyhow::anyhow;
 use bench::bench::Bench;
 use std::env;
+use std::process::ExitCode;
 
 const USAGE: &str = "usage: lanebench < CALLS
 
@@ -62,13 +63,13 @@ fn run(rt: &HostRuntime) -> anyhow::Result<bool> {
     take_calls(rt)
 }
 
-fn main(rt: HostRuntime) -> anyhow::Result<()> {
+fn main(rt: HostRuntime) -> anyhow::Result<ExitCode> {
     match run(&rt) {
-        Ok(true) => Ok(()),
-        Ok(false) => Err(anyhow!("some lines were no calls")),
+        Ok(true) => Ok(ExitCode::SUCCESS),
+        Ok(false) => Ok(ExitCode::FAILURE),
         Err(error) => {
             eprintln!(rt; "lanebench: {error}")?;
-            Err(error)
+            Ok(ExitCode::FAILURE)
         }
     }
 }

@@ -5,6 +5,7 @@ use anyhow::anyhow;
 use load::load;
 use std::env;
 use std::io::{Read, Write};
+use std::process::ExitCode;
 
 const USAGE: &str = "usage: lanetime < RECORD
 
@@ -70,14 +71,14 @@ fn run(rt: &HostRuntime) -> anyhow::Result<bool> {
     }
 }
 
-fn main(rt: HostRuntime) -> anyhow::Result<()> {
+fn main(rt: HostRuntime) -> anyhow::Result<ExitCode> {
     match run(&rt) {
-        Ok(true) => Ok(()),
+        Ok(true) => Ok(ExitCode::SUCCESS),
         // A refusal is the answer that was asked for: it has been printed, and only the status is left to tell.
-        Ok(false) => Err(anyhow!("refused")),
+        Ok(false) => Ok(ExitCode::FAILURE),
         Err(error) => {
             eprintln!(rt; "lanetime: {error}")?;
-            Err(error)
+            Ok(ExitCode::FAILURE)
         }
     }
 }

@@ -3,7 +3,7 @@
 
 ghost use Rattle.std.specs.Prelude.{◌≡◌, ℕ, ◌+◌, ◌*◌, ◌<◌, ◌≤◌, true, not, [], length, replicate, Some, slice_set};
 ghost use Rattle.facts.specs.Space.{placed};
-ghost use Rattle.facts.specs.Settling.{region_of, leads_on, leads_in, starts, predecessors, state_at, end_state, gathered, pass as passed, unchanged, passes as passesOf};
+ghost use Rattle.facts.specs.Settling.{region_of, leads_on, leads_in, starts, predecessors, state_at, end_state, gathered, pass as passed, unchanged, passes as passes_of};
 ghost use Rattle.settle.specs.Outcome.{Ready, every, roomy, settleable, outcome, starts_below, entry_of};
 
 use facts::Facts;
@@ -64,7 +64,7 @@ fn run<G: Copy, K: Facts<G>>(
     geometry: G,
 ) -> u32
     requires { Ready (K.takes geometry) blocks.now range (length states.old) }
-    ensures { passesOf (K.kind geometry) (region_of blocks.now edges.now range) (length blocks.now * (K.kind geometry).height + 1) states.old ≡ (states.new, result) }
+    ensures { passes_of (K.kind geometry) (region_of blocks.now edges.now range) (length blocks.now * (K.kind geometry).height + 1) states.old ≡ (states.new, result) }
 {
     let mut passes = 1;
     while pass(states, blocks, edges, range, geometry) {

@@ -1,4 +1,4 @@
-use Rattle.std.proofs.Common.{◌≡◌, ℕ, List, Ok, Err, ap, ◌∙◌, subst, inl, inr, arith}
+use Rattle.std.proofs.Common.{◌≡◌, ℕ, Ok, ap, ◌∙◌, subst, inl, inr, arith}
 use Rattle.records.specs.Contents.{Contents}
 use Rattle.task.specs.declared.Task.{Task}
 use Rattle.task.specs.View.{task_contents}

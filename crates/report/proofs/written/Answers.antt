@@ -1,5 +1,4 @@
 use Rattle.std.proofs.Common.{◌≡◌, ℕ, ◌^◌, ◌<◌, List, [], ◌++◌, length, ap, ◌∙◌, append-nil, arith}
-use Rattle.std.specs.Vec.{with_items}
 use Rattle.std.proofs.lemmas.List.{drop_all, with_items_is}
 use Rattle.task.specs.View.{task_contents}
 use Rattle.examine.specs.Findings.{shown}

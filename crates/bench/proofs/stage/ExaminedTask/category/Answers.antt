@@ -1,4 +1,4 @@
-use Rattle.std.proofs.Common.{◌≡◌, ℕ, ◌+◌, ◌<◌, ◌≤◌, List, [], length, vec_items, sym, ap, ◌∙◌, arith}
+use Rattle.std.proofs.Common.{◌≡◌, ℕ, ◌+◌, ◌<◌, List, length, vec_items, sym, ap, ◌∙◌, arith}
 use Rattle.records.specs.declared.parts.Block.{Block}
 use Rattle.task.specs.Graph.{block_at}
 use Rattle.task.specs.View.{task_contents}
