@@ -8,6 +8,8 @@ ghost use Rattle.buffer.specs.Put.{Put, Puts};
 pub fn put_bytes(out: &mut [u8], at: usize, bytes: &[u8]) -> Option<usize>
     ensures { Puts at bytes.now out.old result out.new }
 {
+    // Buffer and place are two parameters only in this crate, which writes lent bytes: what lays text behind text holds
+    // both in one struct.
     let end = at.checked_add(bytes.len())?;
     if end > out.len() {
         return None;

@@ -1,6 +1,6 @@
 -- A text has one outcome.
 use Rattle.std.proofs.Common.{◌≡◌, ℕ, ◌<◌, ◌≤◌, List, length, Ok, Err, Result, sym, refl, ap, ◌∙◌, subst, inl, inr, arith}
-use Rattle.syntax.specs.declared.fault.TextFault.{TextFault}
+use Rattle.syntax.specs.Fault.{TextFault}
 use Rattle.records.specs.Contents.{Contents}
 use Rattle.records.specs.Layout.{InFormat, record_text}
 use Rattle.records.specs.View.{contents}
@@ -10,7 +10,7 @@ use Rattle.reader.specs.Reading.{Refused, Reading}
 use Rattle.reader.proofs.Once.{same_text, only_long, one_refusal}
 use Rattle.writer.proofs.Bound.{text_bound}
 use Rattle.task.specs.declared.Task.{Task}
-use Rattle.task.specs.declared.fault.GraphFault.{GraphFault}
+use Rattle.task.specs.Fault.{GraphFault}
 use Rattle.task.specs.Rules.{Sound, FirstBroken}
 use Rattle.task.proofs.Tried.{first_once, first_unsound}
 use Rattle.load.specs.declared.refusal.Refusal.{Refusal}

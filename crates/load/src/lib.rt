@@ -3,12 +3,12 @@
 
 ghost use Rattle.load.specs.Loading.{Loading, OneReading, ReadsBack};
 
+pub mod refusal;
+
 use crate::refusal::*;
 use reader::read;
 use std::alloc::Global;
 use task::Task;
-
-pub mod refusal;
 
 // The task whose record has the text `bytes`.
 pub fn load(heap: Global, bytes: &[u8]) -> Result<Task, Refusal>
@@ -17,6 +17,5 @@ pub fn load(heap: Global, bytes: &[u8]) -> Result<Task, Refusal>
     ensures back { ReadsBack bytes.now result }
 {
     let record = read(heap, bytes)?;
-    let task = Task::new(record)?;
-    Ok(task)
+    Ok(Task::new(record)?)
 }

@@ -9,7 +9,7 @@ use syntax::fault::TextFault;
 use task::fault::GraphFault;
 
 // A refusal carries the fault of the layer that found it, whole.
-#[derive(Clone, Copy)]
+#[derive(Clone, Copy, PartialEq, Eq, Debug)]
 pub enum Refusal {
     Text(TextFault),
     Graph(GraphFault),
@@ -40,6 +40,7 @@ impl Refusal {
     pub fn number(&self) -> u32
         ensures { result ≡ number self.now }
     {
+        // The fault answers, as for `place`: faults of two layers are two types, so an arm for each.
         match self {
             Refusal::Text(fault) => fault.number(),
             Refusal::Graph(fault) => fault.number(),

@@ -37,7 +37,7 @@ mod tests {
         let Ok(length) = write(&task.record, &mut out) else {
             return Err(Fail::new("too short"));
         };
-        assert!(rt; &out[0..length] == RECORD);
+        assert!(rt; &out[..length] == RECORD);
         assert!(rt; length < 200);
         assert_eq!(rt; out[length], 7);
         assert_eq!(rt; out[199], 7);
@@ -54,7 +54,7 @@ mod tests {
             Ok(_) => Err(Fail::new("it fits")),
             Err(short) => {
                 assert_eq!(rt; short.needed, RECORD.len());
-                assert!(rt; !out.as_slice().contains(&b'l'));
+                assert!(rt; !out.contains(&b'l'));
                 Ok(())
             }
         }

@@ -1,6 +1,6 @@
 -- A text is that of one record, or is refused in one way.
 use Rattle.std.proofs.Common.{◌≡◌, ℕ, ◌<◌, List, [], ◌∷◌, ◌++◌, map, length, Ok, sym, refl, ◌∙◌, inl, inr, arith}
-use Rattle.syntax.specs.declared.fault.TextFault.{TextFault}
+use Rattle.syntax.specs.Fault.{TextFault}
 use Rattle.syntax.proofs.Once.{same_rows, no_fault, one_fault}
 use Rattle.records.specs.declared.parts.Header.{Header}
 use Rattle.records.specs.declared.parts.Block.{Block}

@@ -1,11 +1,15 @@
 -- Lines with one number.
-use Rattle.std.proofs.Common.{◌≡◌, ℕ, Bool, true, false, eqb, List, [], ◌∷◌, sym, refl}
+use Rattle.std.proofs.Common.{◌≡◌, ℕ, Bool, true, false, eqb, List, [], ◌∷◌, Some, None, Option, Ok, sym, refl}
 use Rattle.std.specs.List.{IsAnyAnswer}
+use Rattle.std.specs.Option.{ok_or}
 use Rattle.std.proofs.lemmas.List.Elements.{contains_decides}
 use Rattle.std.proofs.lemmas.Bool.{and_from, and_left}
 use Rattle.std.proofs.lemmas.Bool.Decides.{Decides-by_or, Decides-eqb, Decides-like, same_from_decides}
-use Rattle.syntax.specs.Line.{Takes, OutOfRange, line_text}
-use Rattle.records.specs.Layout.{single, one_of}
+use Rattle.syntax.specs.declared.fault.TextRule.{TextRule}
+use Rattle.syntax.specs.declared.fault.TextRule.TheVariants.{Range}
+use Rattle.syntax.specs.Fields.{ReadsFields, one}
+use Rattle.records.specs.Layout.{one_of}
+use Rattle.reader.specs.Lines.{BadBody, ReadsBody}
 
 -- what `contains` answers
 pub chosen : (ys : List ℕ) (x : ℕ) (r : Bool) → IsAnyAnswer (λ y t. eqb y x ≡ t) ys r → one_of ys x ≡ r
@@ -14,10 +18,15 @@ chosen ys x r h =
     (Decides-by_or (eqb x) (λ y. y ≡ x) (λ zs. one_of zs x) (λ y. Decides-like (eqb x y) sym sym (Decides-eqb x y)) refl (λ _ _. refl) ys)
     (contains_decides eqb Decides-eqb ys x r h)
 
--- a line with any number, whose number is within the range
-pub within : (key : List ℕ) (p : ℕ → Bool) (n : ℕ) → Takes (single key (λ _. true)) (n ∷ []) → p n ≡ true → Takes (single key p) (n ∷ [])
-within key p n g e = record { numbers = g.numbers; ranges = and_from (p n) true e refl }
+-- where `?` found a number
+pub was_number : (s : List ℕ) (o : Option ℕ) (rule : TextRule) (n : ℕ) → Ok n ≡ ok_or o rule → ReadsFields one s o → ReadsFields one s (Some n)
+was_number s None rule n h r = absurd (cc)
+was_number s (Some m) rule n h r = let e : n ≡ m = cc in rw e r
+
+-- that is within its range
+pub one_in : (p : ℕ → Bool) (n : ℕ) (s : List ℕ) → ReadsFields one s (Some n) → p n ≡ true → ReadsBody (p ∷ []) one.fields s (Ok n)
+one_in p n s r e = (r.0, and_from (p n) true e refl, r.1)
 
 -- or is not
-pub outside : (key : List ℕ) (p : ℕ → Bool) (n : ℕ) (t rest : List ℕ) → Takes (single key (λ _. true)) (n ∷ []) → t ≡ line_text key (n ∷ []) rest → p n ≡ false → OutOfRange (single key p) t
-outside key p n t rest g l e = record { fields = n ∷ []; rest = rest; numbers = g.numbers; line = l; out = and_left (p n) true e }
+pub one_out : (p : ℕ → Bool) (n : ℕ) (s : List ℕ) → ReadsFields one s (Some n) → p n ≡ false → BadBody (p ∷ []) s Range
+one_out p n s r e = (n ∷ [], r.0, r.1, and_left (p n) true e)

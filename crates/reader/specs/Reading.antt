@@ -1,6 +1,6 @@
 -- What a text says: a record, or what is wrong with it.
 use Rattle.std.specs.Prelude.{◌≡◌, ℕ, ◌<◌, ◌≤◌, ◌⊎◌, List, length, Ok, Err, Result}
-use Rattle.syntax.specs.declared.fault.TextFault.{TextFault}
+use Rattle.syntax.specs.Fault.{TextFault}
 use Rattle.syntax.specs.declared.fault.TextRule.TheVariants.{TooLong}
 use Rattle.syntax.specs.Format.{Faulty}
 use Rattle.records.specs.declared.Record.{Record}

@@ -1,49 +1,33 @@
 // The entries of a record's lists.
-ghost use Rattle.std.specs.Prelude.{◌≡◌, ℕ, ◌+◌, ◌^◌, ◌<◌, ◌≤◌, List, IfOk, vec_len};
-ghost use Rattle.syntax.specs.Line.{Form};
-ghost use Rattle.records.specs.Layout.{single, between, block_form, loop_form, edge_form, block_row, loop_row, edge_row};
-ghost use Rattle.reader.specs.Lines.{ReadsBody, ReadsLine};
+ghost use Rattle.std.specs.Prelude.{ℕ, ◌≤◌, Bool, List, IfOk, vec_len};
+ghost use Rattle.records.specs.Layout.{single, between, block_form, loop_form, edge_form};
+ghost use Rattle.reader.specs.Lines.{form, ReadsBody, ReadsLine};
 ghost use Rattle.reader.specs.Parts.{ReadsEntries, ReadsCounted};
 
 use crate::error::*;
-use crate::line::bounded_line;
+use crate::lines::Lines;
+use records::entry::Entry;
 use records::parts::*;
 use std::alloc::Global;
-use syntax::cut::cut_line;
 use syntax::fault::*;
 use syntax::fields::*;
 
-// What stands on a line of its own in one of a record's lists.
-pub(crate) trait Entry: Copy {
-    // The form of that line, in a task of so many blocks.
-    ghost form: { ℕ → Form };
-
-    // The numbers of that line.
-    ghost numbers: { Self → List ℕ };
-
-    // The key of that line.
-    fn key() -> &'static [u8]
-        ensures { (n : ℕ) → (form n).key ≡ result.now };
+// An entry that is read from its line.
+pub(crate) trait Parse<const N: usize>: Entry<N> {
+    // The ranges of its numbers, in a task of so many blocks.
+    ghost ranges: { ℕ → List (ℕ → Bool) };
 
     // The entry with the numbers `body`, in a task of `blocks` blocks.
     fn parse(body: &[u8], blocks: usize) -> Result<Self, TextRule>
-        ensures { ReadsBody (form blocks) numbers body.now result };
+        ensures { ReadsBody (ranges blocks) Self.numbers body.now result };
 }
 
-impl Entry for Block {
-    ghost form = { λ _. block_form };
-
-    ghost numbers = { block_row };
-
-    fn key() -> &'static [u8] {
-        b"block="
-    }
+impl Parse<3> for Block {
+    ghost ranges = { λ _. block_form.ranges };
 
     fn parse(body: &[u8], _blocks: usize) -> Result<Block, TextRule> {
-        let Some((address, fetches, cycles)) = triple(body) else {
-            return Err(TextRule::Number);
-        };
-        if address > 16_777_215 || fetches < 1 || fetches > 64 || cycles > 65_535 {
+        let (address, fetches, cycles) = triple(body).ok_or(TextRule::Number)?;
+        if address > 16_777_215 || !(1..=64).contains(&fetches) || cycles > 65_535 {
             return Err(TextRule::Range);
         }
         Ok(Block {
@@ -54,24 +38,16 @@ impl Entry for Block {
     }
 }
 
-impl Entry for Loop {
-    ghost form = { loop_form };
-
-    ghost numbers = { loop_row };
-
-    fn key() -> &'static [u8] {
-        b"loop="
-    }
+impl Parse<3> for Loop {
+    ghost ranges = { λ n. (loop_form n).ranges };
 
     fn parse(body: &[u8], blocks: usize) -> Result<Loop, TextRule> {
-        let Some((header, last, limit)) = triple(body) else {
-            return Err(TextRule::Number);
-        };
+        let (header, last, limit) = triple(body).ok_or(TextRule::Number)?;
         let header = header as usize;
         let last = last as usize;
         // The greatest number of a block.
         let top = blocks.saturating_sub(1);
-        if header < 1 || header > top || last > top || limit < 1 || limit > 65_535 {
+        if !(1..=top).contains(&header) || last > top || !(1..=65_535).contains(&limit) {
             return Err(TextRule::Range);
         }
         Ok(Loop {
@@ -82,19 +58,11 @@ impl Entry for Loop {
     }
 }
 
-impl Entry for Edge {
-    ghost form = { edge_form };
-
-    ghost numbers = { edge_row };
-
-    fn key() -> &'static [u8] {
-        b"edge="
-    }
+impl Parse<2> for Edge {
+    ghost ranges = { λ n. (edge_form n).ranges };
 
     fn parse(body: &[u8], blocks: usize) -> Result<Edge, TextRule> {
-        let Some((from, to)) = pair(body) else {
-            return Err(TextRule::Number);
-        };
+        let (from, to) = pair(body).ok_or(TextRule::Number)?;
         let from = from as usize;
         let to = to as usize;
         // The greatest number of a block.
@@ -106,61 +74,49 @@ impl Entry for Edge {
     }
 }
 
-// A line with an entry, and what follows it; `at` is its place in the text.
-fn entry_line<'a, E: Entry>(
-    text: &'a [u8],
-    blocks: usize,
-    at: usize,
-) -> Result<(E, &'a [u8]), TextFault>
-    ensures { ReadsLine (E.form blocks) E.numbers at text.now result }
-{
-    let Some((body, rest)) = cut_line(text, E::key()) else {
-        return Err(TextFault {
-            rule: TextRule::Line,
-            place: at,
-        });
-    };
-    match E::parse(body, blocks) {
-        Ok(entry) => Ok((entry, rest)),
-        Err(rule) => Err(TextFault { rule, place: at }),
+impl Lines<'_> {
+    // Reads a line with an entry.
+    fn entry<const N: usize, E: Parse<N>>(&mut self, blocks: usize) -> Result<E, TextFault>
+        ensures { ReadsLine (form E.tag (E.ranges blocks)) E.numbers self.old result self.new }
+    {
+        self.line(
+            E::key(),
+            |body| -> Result<E, TextRule>
+                ensures { ReadsBody (E.ranges blocks) E.numbers body.now result }
+            { E::parse(body, blocks) },
+        )
     }
-}
 
-// `count` lines with an entry each, and what follows them; the first is line `at`.
-fn entries<'a, E: Entry + 'a>(
-    heap: Global,
-    text: &'a [u8],
-    count: u32,
-    blocks: usize,
-    at: usize,
-) -> Result<(Vec<E>, &'a [u8]), ReadError>
-    requires { at + count < 2 ^ 64 }
-    ensures { ReadsEntries count (E.form blocks) E.numbers at text.now result }
-{
-    let mut all = Vec::new(heap);
-    let mut rest = text;
-    for i in 0..count {
-        let (entry, after) = entry_line(rest, blocks, at + i as usize)?;
-        all.push(entry)?;
-        rest = after;
+    // Reads `count` lines with an entry each.
+    fn entries<const N: usize, E: Parse<N>>(
+        &mut self,
+        heap: Global,
+        count: u32,
+        blocks: usize,
+    ) -> Result<Vec<E>, ReadError>
+        ensures { ReadsEntries count (form E.tag (E.ranges blocks)) E.numbers self.old result self.new }
+    {
+        // A loop: `try_collect` needs a closure with its result type and clause, and `ReadError` from `AllocError` too.
+        let mut all = Vec::new(heap);
+        for _ in 0..count {
+            all.push(self.entry(blocks)?)?;
+        }
+        Ok(all)
     }
-    Ok((all, rest))
-}
 
-// A line with a count from `low` to `high`, so many entries, and what follows them; the first is line `at`.
-pub(crate) fn counted<'a, E: Entry + 'a>(
-    heap: Global,
-    text: &'a [u8],
-    key: &[u8],
-    low: u32,
-    high: u32,
-    blocks: usize,
-    at: usize,
-) -> Result<(Vec<E>, &'a [u8]), ReadError>
-    requires { at < 2 ^ 32 }
-    ensures reads { ReadsCounted (single key.now (between low high)) (E.form blocks) E.numbers at text.now result }
-    ensures few { IfOk result (λ p. vec_len p.0 ≤ high) }
-{
-    let (count, rest) = bounded_line(text, key, low, high, at)?;
-    entries(heap, rest, count, blocks, at + 1)
+    // Reads a line with a count from `low` to `high`, and so many entries.
+    pub(crate) fn counted<const N: usize, E: Parse<N>>(
+        &mut self,
+        heap: Global,
+        key: &[u8],
+        low: u32,
+        high: u32,
+        blocks: usize,
+    ) -> Result<Vec<E>, ReadError>
+        ensures reads { ReadsCounted (single key.now (between low high)) (form E.tag (E.ranges blocks)) E.numbers self.old result self.new }
+        ensures few { IfOk result (λ entries. vec_len entries ≤ high) }
+    {
+        let count = self.bounded(key, low, high)?;
+        self.entries(heap, count, blocks)
+    }
 }

@@ -5,7 +5,8 @@ ghost use Rattle.reader.specs.declared.error.ReadError.TheVariants.{Fault, NoMem
 use std::alloc::AllocFailed;
 use syntax::fault::TextFault;
 
-#[derive(Clone, Copy)]
+// The fault of the text, or no memory.
+#[derive(Clone, Copy, PartialEq, Eq, Debug)]
 pub enum ReadError {
     // The text is that of no record.
     Fault(TextFault),

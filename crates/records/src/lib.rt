@@ -4,6 +4,7 @@
 ghost use Rattle.records.specs.Contents.{contents_of};
 ghost use Rattle.records.specs.Layout.{InFormat};
 
+pub mod entry;
 pub mod parts;
 
 use crate::parts::*;

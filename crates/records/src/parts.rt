@@ -40,8 +40,9 @@ pub struct Loop {
     pub limit: u32,
 }
 
-// A way from the end of one block to the start of another.
-#[derive(Clone, Copy)]
+// A way from the end of one block to the start of another. Edges are ordered by where they start, and then by where
+// they lead.
+#[derive(Clone, Copy, PartialEq, Eq, PartialOrd, Ord)]
 pub struct Edge {
     pub from: usize,
     pub to: usize,

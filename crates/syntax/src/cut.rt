@@ -5,12 +5,8 @@ ghost use Rattle.syntax.specs.Cut.{Splits, CutsLine};
 pub fn split(s: &[u8], byte: u8) -> Option<(&[u8], &[u8])>
     ensures { Splits byte s.now result }
 {
-    for (i, b) in s.iter().enumerate() {
-        if *b == byte {
-            return Some((&s[..i], &s[i + 1..]));
-        }
-    }
-    None
+    let i = s.iter().position(|b| *b == byte)?;
+    Some((&s[..i], &s[i + 1..]))
 }
 
 // What stands on the line that `text` begins with, after its `key`, and what follows the line.

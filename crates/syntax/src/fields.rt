@@ -16,12 +16,13 @@ pub fn number(s: &[u8]) -> Option<u32>
     if s[0] == b'0' && s.len() > 1 {
         return None;
     }
+    // A loop: `try_fold` ends at the first byte that is no digit as well, and is no shorter.
     let mut n = 0u32;
     for b in s {
-        if *b < b'0' || *b > b'9' {
+        if !b.is_ascii_digit() {
             return None;
         }
-        n = n * 10 + (*b - b'0') as u32;
+        n = n * 10 + u32::from(*b - b'0');
     }
     Some(n)
 }
@@ -30,6 +31,8 @@ pub fn number(s: &[u8]) -> Option<u32>
 pub fn pair(body: &[u8]) -> Option<(u32, u32)>
     ensures { ReadsFields two body.now result }
 {
+    // Not one `numbers<N>` for `pair` and `triple`, over the parts of the slice's own `split`: that has no proof yet, which
+    // would need an invariant on the parts to come, where these two are proved by one cut each.
     let (first, second) = split(body, b',')?;
     Some((number(first)?, number(second)?))
 }

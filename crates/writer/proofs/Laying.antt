@@ -1,7 +1,8 @@
 -- Texts laid one after the other.
-use Rattle.std.proofs.Common.{◌≡◌, ℕ, ◌+◌, List, [], ◌++◌, length, arith, length-append}
+use Rattle.std.proofs.Common.{◌≡◌, ℕ, ◌+◌, List, [], ◌++◌, length, refl, ◌∙◌, arith, length-append}
 use Rattle.buffer.proofs.Puts.{put_then, put_length, put_none}
-use Rattle.writer.specs.Lays.{Lays}
+use Rattle.writer.specs.declared.text.Text.{Text}
+use Rattle.writer.specs.Lays.{Lays, Appends}
 
 -- a text, and then more
 pub lays_then : {at mid end : ℕ} {xs ys old between new : List ℕ} → Lays at xs old mid between → Lays mid ys between end new → Lays at (xs ++ ys) old end new
@@ -26,3 +27,13 @@ lays_none at old = record { ends = λ small. omega arith; puts = λ small. put_n
 -- the same text, written otherwise
 pub lays_same : {at end : ℕ} {bytes others old new : List ℕ} → others ≡ bytes → Lays at bytes old end new → Lays at others old end new
 lays_same e l = rw e l
+
+-- the same behind a text
+pub appends_then : {xs ys : List ℕ} {old mid new : Text} → Appends xs old mid → Appends ys mid new → Appends (xs ++ ys) old new
+appends_then a b = record { buffer = b.buffer ∙ a.buffer; lays = lays_then a.lays b.lays }
+
+pub appends_none : (text : Text) → Appends [] text text
+appends_none text = record { buffer = refl; lays = lays_none text.end text.out.now }
+
+pub appends_same : {bytes others : List ℕ} {old new : Text} → others ≡ bytes → Appends bytes old new → Appends others old new
+appends_same e a = rw e a

@@ -1,22 +1,23 @@
 // Writing the text of a record into a lent buffer. Nothing is allocated.
 #![tactic(auto)]
 
+ghost use Rattle.std.specs.Prelude.{ℕ, ◌^◌, ◌<◌, List, length};
 ghost use Rattle.records.specs.Layout.{record_text};
 ghost use Rattle.records.specs.View.{contents};
-ghost use Rattle.writer.specs.Lays.{Lays};
+ghost use Rattle.writer.specs.Lays.{Appends};
 ghost use Rattle.writer.specs.Parts.{header_text};
 ghost use Rattle.writer.specs.Wrote.{Wrote};
 
-pub mod lines;
 mod rows;
+pub mod text;
 
-use crate::lines::lay_line;
 use crate::rows::lay_list;
+use crate::text::Text;
 use records::Record;
 use records::parts::Header;
 
 // The buffer is shorter than the text, which has `needed` bytes.
-#[derive(Clone, Copy)]
+#[derive(Clone, Copy, PartialEq, Eq, Debug)]
 pub struct TooShort {
     pub needed: usize,
 }
@@ -25,31 +26,43 @@ pub struct TooShort {
 pub fn write(record: &Record, out: &mut [u8]) -> Result<usize, TooShort>
     ensures { Wrote (record_text (contents «record».now)) out.old result out.new }
 {
+    fill(out, |text| lay_record(record, text))
+}
+
+// Writes what `lay` lays to the front of `out`, and says how long it is. Where it does not fit, `out` stays as it is.
+pub fn fill<F: Fn(&mut Text)>(out: &mut [u8], lay: F) -> Result<usize, TooShort>
+    requires { F.IsAlwaysCallable lay }
+    ensures { (text : List ℕ) → length text < 2 ^ 64 → ((old : _) (new : _) → F.post lay old tt new → Appends text old.now new.now) → Wrote text out.old result out.new }
+{
     // Laid into an empty buffer, the text only tells where it ends.
-    let needed = lay_record(record, &mut []);
+    let mut measured = Text::new(&mut [], 0);
+    lay(&mut measured);
+    let needed = measured.end();
     if out.len() < needed {
         return Err(TooShort { needed });
     }
-    Ok(lay_record(record, out))
+    let mut text = Text::new(out, 0);
+    lay(&mut text);
+    Ok(text.end())
 }
 
-// Lays the whole text from the front of `out` on, and says where it ends.
-fn lay_record(record: &Record, out: &mut [u8]) -> usize
-    ensures { Lays 0 (record_text (contents «record».now)) out.old result out.new }
+// Lays the whole text.
+fn lay_record(record: &Record, text: &mut Text)
+    ensures { Appends (record_text (contents «record».now)) text.old text.new }
 {
-    let end = lay_header(&record.header, out);
-    let end = lay_list(out, end, b"blocks=", record.blocks.as_slice());
-    let end = lay_list(out, end, b"loops=", record.loops.as_slice());
-    lay_list(out, end, b"edges=", record.edges.as_slice())
+    lay_header(&record.header, text);
+    lay_list(text, b"blocks=", &record.blocks);
+    lay_list(text, b"loops=", &record.loops);
+    lay_list(text, b"edges=", &record.edges);
 }
 
-// Lays the lines before the blocks, and says where they end.
-fn lay_header(header: &Header, out: &mut [u8]) -> usize
-    ensures { Lays 0 (header_text header.now) out.old result out.new }
+// Lays the lines before the blocks.
+fn lay_header(header: &Header, text: &mut Text)
+    ensures { Appends (header_text header.now) text.old text.new }
 {
-    let end = lay_line(out, 0, b"line=", &[header.geometry.line as u64]);
-    let end = lay_line(out, end, b"slots=", &[header.geometry.slots as u64]);
-    let end = lay_line(out, end, b"hit=", &[header.hit as u64]);
-    let end = lay_line(out, end, b"penalty=", &[header.penalty as u64]);
-    lay_line(out, end, b"window=", &[header.window as u64])
+    text.lay_line(b"line=", &[header.geometry.line as u64]);
+    text.lay_line(b"slots=", &[header.geometry.slots as u64]);
+    text.lay_line(b"hit=", &[header.hit as u64]);
+    text.lay_line(b"penalty=", &[header.penalty as u64]);
+    text.lay_line(b"window=", &[header.window as u64]);
 }

@@ -6,7 +6,7 @@ use Rattle.records.specs.Contents.{Contents}
 use Rattle.records.specs.View.{contents}
 use Rattle.records.specs.Layout.{record_text}
 use Rattle.writer.specs.Parts.{header_text}
-use Rattle.writer.proofs.Laying.{lays_then, lays_same}
+use Rattle.writer.proofs.Laying.{appends_then, appends_same}
 use Rattle.writer.proofs.Parts.{blocks_text, loops_text, edges_text, record_parts}
 use Rattle.writer.proofs.lay_record.Goals as goal
 
@@ -17,7 +17,7 @@ lent_parts c bs ls es b l e = rw (b, l, e) (record_parts c)
 
 pub returns : goal.returns
 returns c =
-    lays_same
-    (lent_parts (contents c.args.record.now) c.as_slice.result.now c.as_slice-2.result.now c.as_slice-3.result.now
-    c.as_slice.ensures.value c.as_slice-2.ensures.value c.as_slice-3.ensures.value)
-    (lays_then c.lay_header-end.ensures (lays_then c.lay_list-end.ensures (lays_then c.lay_list-end-2.ensures c.lay_list.ensures)))
+    appends_same
+    (lent_parts (contents c.args.record.now) c.deref.result.now c.deref-2.result.now c.deref-3.result.now
+    c.deref.ensures.value c.deref-2.ensures.value c.deref-3.ensures.value)
+    (appends_then c.lay_header.ensures (appends_then c.lay_list.ensures (appends_then c.lay_list-2.ensures c.lay_list-3.ensures)))

@@ -1,10 +1,10 @@
-use Rattle.std.proofs.Common.{◌≡◌, ℕ, ◌<◌, List, length, get_or, arith, true-eqb, false-eqb}
+use Rattle.std.proofs.Common.{inl, inr, ◌≡◌, ℕ, ◌<◌, List, length, get_or, arith, true-eqb, false-eqb}
 use Rattle.std.proofs.lemmas.Str.Parse.{digit_at}
 use Rattle.syntax.specs.Line.{Numbers, fields_text}
 use Rattle.syntax.proofs.Digits.{Plain, plain_decimal, room, read_more, read_all}
 use Rattle.syntax.proofs.Listed.{decimal_one, one_decimal}
 use Rattle.syntax.proofs.fields.number.Goals as goal
-use Rattle.syntax.proofs.fields.number.Goals.{then-is_empty-via-then-is_empty, then-is_empty-via-else-is_empty+then-s-gt-MOST_DIGITS, then-b-lt48-via-then-b-lt48, then-b-lt48-via-else-b-lt48+then-b-gt57, else-s-eq48-via-then-s-eq48+else-s-gt1, else-s-eq48-via-else-s-eq48}
+use Rattle.syntax.proofs.fields.number.Goals.{then-is_empty-via-then-is_empty, then-is_empty-via-else-is_empty+then-s-gt-MOST_DIGITS, else-s-eq48-via-then-s-eq48+else-s-gt1, else-s-eq48-via-else-s-eq48}
 
 -- what the text of one number looks like
 plain : (s fs : List ℕ) → Numbers 1 fs → s ≡ fields_text fs → Plain s
@@ -23,13 +23,13 @@ returns-then-s-gt1 c = λ fs n e.
     let p = plain c.args.s.now fs n e in
     omega (arith, p.lead c.if-s-eq48.true)
 
-pub returns-then-b-lt48 : goal.returns-then-b-lt48
-returns-then-b-lt48 c = λ fs n e.
+pub returns-then-not-is_ascii_digit : goal.returns-then-not-is_ascii_digit
+returns-then-not-is_ascii_digit c = λ fs n e.
     let p = plain c.args.s.now fs n e in
     let d = digit_at c.args.s.now c.loop-b.b-index p.digits c.loop-b-test.true in
-    elim c.then-b-lt48.branch [
-      | then-b-lt48-via-then-b-lt48 w ↦ omega (arith, d, w.if-b-lt48.true)
-      | then-b-lt48-via-else-b-lt48+then-b-gt57 w ↦ omega (arith, d, w.if-b-gt57.true)
+    elim c.if-not-is_ascii_digit.ensures.cases [
+      | inl low ↦ omega (arith, d, low)
+      | inr high ↦ omega (arith, d, high)
     ]
 
 pub overflow_mul-n : goal.overflow_mul-n
@@ -39,7 +39,7 @@ pub overflow_add-n : goal.overflow_add-n
 overflow_add-n c = omega (arith, room c.args.s.now c.loop-b.b-index c.loop-b.n c.loop-b-test.true c.if-s-gt-MOST_DIGITS.false c.loop-b.invariant)
 
 pub loop-b-preserved : goal.loop-b-preserved
-loop-b-preserved c = read_more c.args.s.now c.loop-b.b-index c.loop-b.n c.loop-b-test.true c.if-b-lt48.false c.if-b-gt57.false c.loop-b.invariant
+loop-b-preserved c = let digit = c.if-not-is_ascii_digit.ensures.cases in rw c.from.ensures (read_more c.args.s.now c.loop-b.b-index c.loop-b.n c.loop-b-test.true digit.0 digit.1 c.loop-b.invariant)
 
 pub returns : goal.returns
 returns c =

@@ -1,24 +1,31 @@
-use Rattle.std.proofs.Common.{[], ◌∷◌, ◌++◌, length, sym, ap, ◌∙◌}
+use Rattle.std.proofs.Common.{arith, ap₂, [], ◌∷◌, ◌++◌, length, sym, ap, ◌∙◌}
 use Rattle.std.proofs.lemmas.List.{take_all}
 use Rattle.syntax.specs.Line.{line_text}
 use Rattle.writer.specs.Parts.{rows_text}
-use Rattle.writer.proofs.Laying.{lays_none, lays_then, lays_same}
+use Rattle.writer.proofs.Laying.{appends_none, appends_then, appends_same}
 use Rattle.writer.proofs.Parts.{rows_more, line-append}
 use Rattle.writer.proofs.rows.lay_list.Goals as goal
 
-pub loop-row-init : goal.loop-row-init
-loop-row-init g c = lays_none c.lay_line-end.result c.lay_line-end.new.out
+pub loop-entry-init : goal.loop-entry-init
+loop-entry-init g c = appends_none _
 
-pub loop-row-preserved : goal.loop-row-preserved
-loop-row-preserved g c =
-    lays_same (rows_more g.R.Row.key g.R.Row.numbers c.args.rows.now c.loop-row.row-index c.row-item.result c.loop-row-test.true c.row-item.is)
-    (lays_then c.loop-row.invariant c.lay-end.ensures)
+pub fields-requires : goal.fields-requires
+fields-requires g c = omega (arith, g.met.E.Entry.few)
+
+pub shared_whole_as_slice-lay_line : goal.shared_whole_as_slice-lay_line
+shared_whole_as_slice-lay_line g c = omega (arith, g.met.E.Entry.few)
+
+pub loop-entry-preserved : goal.loop-entry-preserved
+loop-entry-preserved g c =
+    appends_same (rows_more g.E.Entry.tag g.E.Entry.numbers c.args.entries.now c.loop-entry.entry-index c.entry-item.result c.loop-entry-test.true c.entry-item.is)
+    (appends_then c.loop-entry.invariant
+    (appends_same (ap₂ (λ key fs. line_text key fs []) (sym c.key.ensures) (sym c.fields.ensures)) c.lay_line-in-loop-entry.ensures))
 
 pub returns : goal.returns
 returns g c =
-    let text = rows_text g.R.Row.key g.R.Row.numbers in
-    let count = length c.args.rows.now ∷ [] in
-    let all = take_all c.loop-row.row-index c.args.rows.now c.loop-row-test.false in
-    lays_same
-    (line-append c.args.heading.now count [] (text c.args.rows.now) ∙ ap (λ xs. line_text c.args.heading.now count [] ++ text xs) (sym all))
-    (lays_then c.lay_line-end.ensures c.loop-row.invariant)
+    let text = rows_text g.E.Entry.tag g.E.Entry.numbers in
+    let count = length c.args.entries.now ∷ [] in
+    let all = take_all c.loop-entry.entry-index c.args.entries.now c.loop-entry-test.false in
+    appends_same
+    (line-append c.args.heading.now count [] (text c.args.entries.now) ∙ ap (λ xs. line_text c.args.heading.now count [] ++ text xs) (sym all))
+    (appends_then c.lay_line.ensures c.loop-entry.invariant)
