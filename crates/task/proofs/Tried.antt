@@ -1,75 +1,84 @@
 -- The rules, tried one after the other.
-use Rattle.std.proofs.Common.{◌≡◌, ℕ, zero, suc, ◌+◌, ◌-◌, ◌<◌, ◌≤◌, List, [], ◌∷◌, length, get_or, Some, None, Option, sym, refl, ap, ◌∙◌, subst, inl, inr, arith, lit<}
+use Rattle.std.proofs.Common.{◌≡◌, ℕ, zero, suc, ◌+◌, ◌-◌, ◌<◌, ◌≤◌, List, [], ◌∷◌, length, get_or, Some, None, Option, sym, refl, ap, ◌∙◌, subst, inl, inr, arith, lit<, lit≤}
 use Rattle.std.proofs.lemmas.Bool.{cases_eq, cases_order}
 use Rattle.records.specs.Contents.{Contents}
 use Rattle.task.specs.declared.fault.GraphRule.{GraphRule}
 use Rattle.task.specs.declared.fault.GraphRule.TheVariants.{LoopOrder, Depth, LimitProduct, EdgeOrder, BackEdge, LoopEntry, Unreached, NoBackEdge, TooManyFetches, Address}
-use Rattle.task.specs.declared.fault.GraphFault.{GraphFault}
-use Rattle.task.specs.Fault.{number}
+use Rattle.task.specs.Fault.{GraphFault, number}
 use Rattle.task.specs.First.{First}
 use Rattle.task.specs.Rules.{Breaks, Sound, Precedes, FirstBroken}
 use Rattle.task.specs.Vetted.{FirstFault, OnlyFault}
 
--- rules whose numbers go up from n
-abbrev Numbered : ℕ → List GraphRule → Type 0
-Numbered n [] = Unit {0}
-Numbered n (r ∷ rs) = (number r ≡ n) × Numbered (n + 1) rs
+-- rules whose numbers go up from n, each with the lowest place that breaks it
+abbrev Listed : Contents → ℕ → List (GraphRule × Option ℕ) → Type 0
+Listed c n [] = Unit {0}
+Listed c n (p ∷ ps) = (number p.0 ≡ n) × First (Breaks c p.0) p.1 × Listed c (n + 1) ps
 
-number_at : (n : ℕ) (rs : List GraphRule) (i : ℕ) → i < length rs → Numbered n rs → number (get_or rs i LoopOrder) ≡ n + i
-number_at n [] i h e = absurd (omega arith)
-number_at n (r ∷ rs) zero h e = omega arith
-number_at n (r ∷ rs) (suc i) h e = omega (arith, number_at (n + 1) rs i (omega arith) e.1)
+listed_at : (c : Contents) (n : ℕ) (ps : List (GraphRule × Option ℕ)) (i : ℕ) (d : GraphRule × Option ℕ) → i < length ps → Listed c n ps
+    → (number (get_or ps i d).0 ≡ n + i) × First (Breaks c (get_or ps i d).0) (get_or ps i d).1
+listed_at c n [] i d h e = absurd (omega arith)
+listed_at c n (p ∷ ps) zero d h e = (omega arith, e.1)
+listed_at c n (p ∷ ps) (suc i) d h e = let at = listed_at c (n + 1) ps i d (omega arith) e.2 in (omega arith, at.1)
 
 abbrev rule_of : ℕ → GraphRule
 rule_of n =
     get_or (LoopOrder ∷ Depth ∷ LimitProduct ∷ EdgeOrder ∷ BackEdge ∷ LoopEntry ∷ Unreached ∷ NoBackEdge ∷ TooManyFetches ∷ Address ∷ []) (n - 5) LoopOrder
 
 -- a rule is known by its number
-of_number : (g : GraphRule) → (number g < 15) × (g ≡ rule_of (number g))
-of_number LoopOrder = (lit< tt, refl)
-of_number Depth = (lit< tt, refl)
-of_number LimitProduct = (lit< tt, refl)
-of_number EdgeOrder = (lit< tt, refl)
-of_number BackEdge = (lit< tt, refl)
-of_number LoopEntry = (lit< tt, refl)
-of_number Unreached = (lit< tt, refl)
-of_number NoBackEdge = (lit< tt, refl)
-of_number TooManyFetches = (lit< tt, refl)
-of_number Address = (lit< tt, refl)
+of_number : (g : GraphRule) → (5 ≤ number g) × (number g < 15) × (g ≡ rule_of (number g))
+of_number LoopOrder = (lit≤ tt, lit< tt, refl)
+of_number Depth = (lit≤ tt, lit< tt, refl)
+of_number LimitProduct = (lit≤ tt, lit< tt, refl)
+of_number EdgeOrder = (lit≤ tt, lit< tt, refl)
+of_number BackEdge = (lit≤ tt, lit< tt, refl)
+of_number LoopEntry = (lit≤ tt, lit< tt, refl)
+of_number Unreached = (lit≤ tt, lit< tt, refl)
+of_number NoBackEdge = (lit≤ tt, lit< tt, refl)
+of_number TooManyFetches = (lit≤ tt, lit< tt, refl)
+of_number Address = (lit≤ tt, lit< tt, refl)
 
 pub same_rule : (g h : GraphRule) → number g ≡ number h → g ≡ h
-same_rule g h e = (of_number g).1 ∙ (ap rule_of e ∙ sym (of_number h).1)
+same_rule g h e = (of_number g).2 ∙ (ap rule_of e ∙ sym (of_number h).2)
 
--- The rules rs go by number, and of the first i of them none is broken.
-pub record Tried (c : Contents) (rs : List GraphRule) (i : ℕ) : Type 0 where
-  pub numbered : Numbered 5 rs
+-- The rules are tried by number, and of the first i of them none is broken.
+pub record Tried (c : Contents) (ps : List (GraphRule × Option ℕ)) (i : ℕ) : Type 0 where
+  pub listed : Listed c 5 ps
   pub clear : (g : GraphRule) (p : ℕ) → number g < 5 + i → Breaks c g p → ⊥
 
+pub tried_none : {c : Contents} {ps : List (GraphRule × Option ℕ)} → Listed c 5 ps → Tried c ps 0
+tried_none listed = record { listed = listed; clear = λ g p l. absurd (omega (arith, (of_number g).0)) }
+
 -- the next one is not broken either
-pub tried_more : {c : Contents} {rs : List GraphRule} {i : ℕ} → Tried c rs i → i < length rs → First (Breaks c (get_or rs i LoopOrder)) None → Tried c rs (i + 1)
-tried_more {c} {rs} {i} tried h kept = record { numbered = tried.numbered; clear = clear }
+pub tried_more : {c : Contents} {ps : List (GraphRule × Option ℕ)} {i : ℕ} (d : GraphRule × Option ℕ) → Tried c ps i → i < length ps
+    → (get_or ps i d).1 ≡ None → Tried c ps (i + 1)
+tried_more {c} {ps} {i} d tried h none = record { listed = tried.listed; clear = clear }
   where
     clear : (g : GraphRule) (p : ℕ) → number g < 5 + (i + 1) → Breaks c g p → ⊥
     clear g p l b =
-        let at = number_at 5 rs i h tried.numbered in
-        elim (cases_eq (number g) (number (get_or rs i LoopOrder))) [
-          | inl e ↦ kept p (subst (λ (x : GraphRule). Breaks c x p) (same_rule g (get_or rs i LoopOrder) e) b)
-          | inr ne ↦ tried.clear g p (omega arith) b
+        let r = (get_or ps i d).0 in
+        let at = listed_at c 5 ps i d h tried.listed in
+        let kept : First (Breaks c r) None = subst (First (Breaks c r)) none at.1 in
+        elim (cases_eq (number g) (number r)) [
+          | inl e ↦ kept p (subst (λ (x : GraphRule). Breaks c x p) (same_rule g r e) b)
+          | inr ne ↦ tried.clear g p (omega (arith, at.0)) b
         ]
 
 -- or it is, first at place k
-pub tried_broken : {c : Contents} {rs : List GraphRule} {i : ℕ} (k : ℕ) → Tried c rs i → i < length rs → First (Breaks c (get_or rs i LoopOrder)) (Some k)
-    → FirstBroken c (record { rule = get_or rs i LoopOrder; place = k })
-tried_broken {c} {rs} {i} k tried h found = record { breaks = found.0; lowest = low }
+pub tried_broken : {c : Contents} {ps : List (GraphRule × Option ℕ)} {i : ℕ} (d : GraphRule × Option ℕ) (k : ℕ) → Tried c ps i → i < length ps
+    → (get_or ps i d).1 ≡ Some k → FirstBroken c (record { rule = (get_or ps i d).0; place = k })
+tried_broken {c} {ps} {i} d k tried h some = record { breaks = found.0; lowest = low }
   where
-    low : (g : GraphFault) → Precedes g (record { rule = get_or rs i LoopOrder; place = k }) → Breaks c g.rule g.place → ⊥
-    low g (inl l) b = tried.clear g.rule g.place (omega (arith, number_at 5 rs i h tried.numbered)) b
+    found : First (Breaks c (get_or ps i d).0) (Some k)
+    found = subst (First (Breaks c (get_or ps i d).0)) some (listed_at c 5 ps i d h tried.listed).1
+
+    low : (g : GraphFault) → Precedes g (record { rule = (get_or ps i d).0; place = k }) → Breaks c g.rule g.place → ⊥
+    low g (inl l) b = tried.clear g.rule g.place (omega (arith, (listed_at c 5 ps i d h tried.listed).0)) b
     low g (inr l) b =
-        found.1 g.place l.1 (subst (λ (x : GraphRule). Breaks c x g.place) (same_rule g.rule (get_or rs i LoopOrder) l.0) b)
+        found.1 g.place l.1 (subst (λ (x : GraphRule). Breaks c x g.place) (same_rule g.rule (get_or ps i d).0 l.0) b)
 
 -- all ten were tried
-pub tried_all : {c : Contents} {rs : List GraphRule} {i : ℕ} → Tried c rs i → 10 ≤ i → Sound c
-tried_all tried h g p = tried.clear g p (omega (arith, (of_number g).0))
+pub tried_all : {c : Contents} {ps : List (GraphRule × Option ℕ)} {i : ℕ} → Tried c ps i → 10 ≤ i → Sound c
+tried_all tried h g p = tried.clear g p (omega (arith, (of_number g).1))
 
 same_fault : (f g : GraphFault) → f.rule ≡ g.rule → f.place ≡ g.place → f ≡ g
 same_fault f g p q = λ t. record { rule = p t; place = q t }

@@ -1,7 +1,11 @@
 -- The numbers of the refusals that concern a task's graph.
 use Rattle.std.specs.Prelude.{ℕ}
+use Rattle.syntax.specs.declared.fault.Fault.{Fault}
 use Rattle.task.specs.declared.fault.GraphRule.{GraphRule}
 use Rattle.task.specs.declared.fault.GraphRule.TheVariants.{LoopOrder, Depth, LimitProduct, EdgeOrder, BackEdge, LoopEntry, Unreached, NoBackEdge, TooManyFetches, Address}
+
+abbrev pub GraphFault : Type 0
+GraphFault = Fault GraphRule
 
 abbrev pub number : GraphRule → ℕ
 number LoopOrder = 5

@@ -6,8 +6,7 @@ use Rattle.records.specs.declared.parts.Edge.{Edge}
 use Rattle.records.specs.Contents.{Contents}
 use Rattle.task.specs.declared.fault.GraphRule.{GraphRule}
 use Rattle.task.specs.declared.fault.GraphRule.TheVariants.{LoopOrder, Depth, LimitProduct, EdgeOrder, BackEdge, LoopEntry, Unreached, NoBackEdge, TooManyFetches, Address}
-use Rattle.task.specs.declared.fault.GraphFault.{GraphFault}
-use Rattle.task.specs.Fault.{number}
+use Rattle.task.specs.Fault.{GraphFault, number}
 use Rattle.task.specs.Graph.{block_at, loop_at, edge_at, Within, levels, limits, total_fetches, Leads}
 
 -- all of loop l is in loop m

@@ -4,7 +4,7 @@ use Rattle.records.specs.declared.Record.{Record}
 use Rattle.records.specs.Contents.{Contents}
 use Rattle.records.specs.View.{contents}
 use Rattle.task.specs.declared.Task.{Task}
-use Rattle.task.specs.declared.fault.GraphFault.{GraphFault}
+use Rattle.task.specs.Fault.{GraphFault}
 use Rattle.task.specs.Rules.{Sound, FirstBroken}
 
 -- these contents break no rule, or this one first

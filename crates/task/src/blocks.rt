@@ -1,7 +1,7 @@
 // The rules that concern the blocks.
-ghost use Rattle.std.specs.Prelude.{◌≡◌, ℕ, ◌+◌, ◌*◌, ◌%◌, ◌<◌, ◌≤◌, ◌⊎◌, length, Decides, ◌≢◌};
+ghost use Rattle.std.specs.Prelude.{ℕ, ◌+◌, ◌*◌, ◌%◌, ◌^◌, ◌<◌, ◌⊎◌, Decides, ◌≢◌};
 ghost use Rattle.task.specs.First.{First};
-ghost use Rattle.task.specs.Graph.{block_at, Leads};
+ghost use Rattle.task.specs.Graph.{total_fetches, Leads};
 ghost use Rattle.task.specs.Rules.{BreaksUnreached, BreaksTooManyFetches, BreaksAddress};
 
 use records::parts::*;
@@ -12,41 +12,27 @@ const MAX_FETCHES: u32 = 1_024;
 // The end of the address space.
 const ADDRESS_END: u64 = 16_777_216;
 
-// Whether no lower block leads to block b.
-fn is_unreached(b: usize, edges: &[Edge]) -> bool
-    ensures { Decides result ((p : ℕ) → p < b → Leads edges.now p b → ⊥) }
+// Whether a lower block leads to block b.
+fn is_reached(b: usize, edges: &[Edge]) -> bool
+    ensures { Decides result ((p : ℕ) × (p < b) × Leads edges.now p b) }
 {
-    for e in edges {
-        if e.to == b && e.from < b {
-            return false;
-        }
-    }
-    true
+    edges.iter().any(|e| e.to == b && e.from < b)
 }
 
 // The first block above 0, of `blocks` blocks, to which no lower block leads.
 pub(crate) fn first_unreached(blocks: usize, edges: &[Edge]) -> Option<usize>
     ensures { First (BreaksUnreached blocks edges.now) result }
 {
-    for b in 1..blocks {
-        if is_unreached(b, edges) {
-            return Some(b);
-        }
-    }
-    None
+    (1..blocks).find(|b| !is_reached(*b, edges))
 }
 
 // Place 0, if the blocks have too many fetches.
 pub(crate) fn too_many_fetches(blocks: &[Block]) -> Option<usize>
-    requires few_blocks { length blocks.now ≤ 128 }
-    requires few_fetches { (b : ℕ) → b < length blocks.now → (block_at blocks.now b).fetches ≤ 64 }
+    requires { total_fetches blocks.now < 2 ^ 32 }
     ensures { First (BreaksTooManyFetches blocks.now) result }
 {
-    let mut total = 0;
-    for block in blocks {
-        total += block.fetches;
-    }
-    if total > MAX_FETCHES { Some(0) } else { None }
+    let total: u32 = blocks.iter().map(|block| block.fetches).sum();
+    (total > MAX_FETCHES).then_some(0)
 }
 
 // Whether the block's address is no multiple of 4, or the block ends past the address space.
@@ -60,10 +46,5 @@ fn is_misplaced(block: Block) -> bool
 pub(crate) fn first_misplaced(blocks: &[Block]) -> Option<usize>
     ensures { First (BreaksAddress blocks.now) result }
 {
-    for (b, block) in blocks.iter().enumerate() {
-        if is_misplaced(*block) {
-            return Some(b);
-        }
-    }
-    None
+    blocks.iter().position(|block| is_misplaced(*block))
 }

@@ -1,64 +1,47 @@
 // A record is held to the rules, one after the other.
-ghost use Rattle.std.specs.Prelude.{IfNone, IfOk};
+ghost use Rattle.std.specs.Prelude.{OnOk, IfOk};
 ghost use Rattle.std.specs.Result.{result_err};
 ghost use Rattle.records.specs.View.{contents};
-ghost use Rattle.task.specs.First.{First};
 ghost use Rattle.task.specs.Laws.{Laws};
-ghost use Rattle.task.specs.Rules.{Breaks};
 ghost use Rattle.task.specs.Vetted.{FirstFault, OnlyFault, Vetted};
 ghost use Rattle.task.specs.View.{task_contents};
 
-use crate::fault::*;
+use crate::fault::GraphFault;
+use crate::fault::GraphRule::*;
 use crate::{Task, blocks, edges, loops};
 use records::Record;
+use records::parts::*;
 
-// The rules in the order in which they are tried.
-const RULES: [GraphRule; 10] = [
-    GraphRule::LoopOrder,
-    GraphRule::Depth,
-    GraphRule::LimitProduct,
-    GraphRule::EdgeOrder,
-    GraphRule::BackEdge,
-    GraphRule::LoopEntry,
-    GraphRule::Unreached,
-    GraphRule::NoBackEdge,
-    GraphRule::TooManyFetches,
-    GraphRule::Address,
-];
-
-// The lowest place at which the record breaks the rule.
-fn lowest_broken(record: &Record, rule: GraphRule) -> Option<usize>
-    ensures { First (Breaks (contents «record».now) rule) result }
+// Holds the record to each rule in turn: the first that it breaks, at its lowest place, refuses it.
+fn vet(record: &Record) -> Result<(), GraphFault>
+    ensures first { FirstFault (contents «record».now) (result_err result) }
+    ensures only { OnlyFault (contents «record».now) (result_err result) }
+    ensures laws { OnOk result (Laws (contents «record».now)) }
 {
-    let blocks = record.blocks.as_slice();
-    let loops = record.loops.as_slice();
-    let edges = record.edges.as_slice();
-    match rule {
-        GraphRule::LoopOrder => loops::first_disordered(loops),
-        GraphRule::Depth => loops::first_too_deep(blocks.len(), loops),
-        GraphRule::LimitProduct => loops::first_over_limit(blocks.len(), loops),
-        GraphRule::EdgeOrder => edges::first_out_of_order(edges),
-        GraphRule::BackEdge => edges::first_stray_back_edge(loops, edges),
-        GraphRule::LoopEntry => edges::first_aside_entry(loops, edges),
-        GraphRule::Unreached => blocks::first_unreached(blocks.len(), edges),
-        GraphRule::NoBackEdge => loops::first_without_back_edge(loops, edges),
-        GraphRule::TooManyFetches => blocks::too_many_fetches(blocks),
-        GraphRule::Address => blocks::first_misplaced(blocks),
-    }
-}
-
-// The first rule that the record breaks, at its lowest place.
-fn first_fault(record: &Record) -> Option<GraphFault>
-    ensures first { FirstFault (contents «record».now) result }
-    ensures only { OnlyFault (contents «record».now) result }
-    ensures laws { IfNone result (Laws (contents «record».now)) }
-{
-    for rule in RULES {
-        if let Some(place) = lowest_broken(record, rule) {
-            return Some(GraphFault { rule, place });
+    let blocks: &[Block] = &record.blocks;
+    let loops: &[Loop] = &record.loops;
+    let edges: &[Edge] = &record.edges;
+    // Each rule with the lowest place that breaks it, in the order in which the rules are named. All are tried before the
+    // first is looked at: a record that is not refused is held to all of them in any case.
+    let rules = [
+        (LoopOrder, loops::first_disordered(loops)),
+        (Depth, loops::first_too_deep(blocks.len(), loops)),
+        (LimitProduct, loops::first_over_limit(blocks.len(), loops)),
+        (EdgeOrder, edges::first_out_of_order(edges)),
+        (BackEdge, edges::first_stray_back_edge(loops, edges)),
+        (LoopEntry, edges::first_aside_entry(loops, edges)),
+        (Unreached, blocks::first_unreached(blocks.len(), edges)),
+        (NoBackEdge, loops::first_without_back_edge(loops, edges)),
+        (TooManyFetches, blocks::too_many_fetches(blocks)),
+        (Address, blocks::first_misplaced(blocks)),
+    ];
+    // A loop: `find_map` would make the fault in a closure inside a closure, which is no plainer.
+    for (rule, broken) in rules {
+        if let Some(place) = broken {
+            return Err(GraphFault { rule, place });
         }
     }
-    None
+    Ok(())
 }
 
 impl Task {
@@ -68,9 +51,7 @@ impl Task {
         ensures only { OnlyFault (contents «record») (result_err result) }
         ensures laws { IfOk result (λ t. Laws (task_contents t)) }
     {
-        match first_fault(&record) {
-            Some(fault) => Err(fault),
-            None => Ok(Task { record }),
-        }
+        vet(&record)?;
+        Ok(Task { record })
     }
 }

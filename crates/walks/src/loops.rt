@@ -24,16 +24,13 @@ pub fn loop_at(task: &Task, number: usize) -> Loop
     ensures range { result ≡ loop_at (all_loops (task_contents task.now)) number }
     ensures blocks { number < length (all_loops (task_contents task.now)) → (result.header ≤ result.last) × (result.last < length (task_contents task.now).blocks) }
 {
-    if number == 0 {
+    // No Option: `loop_at` of a list answers with this loop past its end, so that no contract needs a case for it.
+    let Some(named) = number.checked_sub(1) else {
         return task_loop(task);
-    }
-    if number <= task.record.loops.len() {
-        task.record.loops[number - 1]
-    } else {
-        Loop {
-            header: 0,
-            last: 0,
-            limit: 0,
-        }
-    }
+    };
+    task.record.loops.get(named).copied().unwrap_or(Loop {
+        header: 0,
+        last: 0,
+        limit: 0,
+    })
 }

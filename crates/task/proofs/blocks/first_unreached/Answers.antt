@@ -1,12 +1,14 @@
-use Rattle.std.proofs.Common.{refl, arith, below_more}
-use Rattle.std.proofs.lemmas.Bool.{false≢true}
+use Rattle.std.proofs.Common.{ℕ, ◌<◌, rules, tests, arith}
+use Rattle.std.proofs.lemmas.Iterator.{first_from_Range}
+use Rattle.task.specs.Graph.{Leads}
+use Rattle.task.specs.Rules.{BreaksUnreached}
+use Rattle.task.proofs.Finite.{first_found}
 use Rattle.task.proofs.blocks.first_unreached.Goals as goal
 
-pub returns-then-is_unreached : goal.returns-then-is_unreached
-returns-then-is_unreached c = ((omega arith, omega arith, c.if-is_unreached.ensures.0 refl), c.loop-b.invariant)
-
-pub loop-b-preserved : goal.loop-b-preserved
-loop-b-preserved c = below_more _ _ c.loop-b.invariant (λ b. false≢true (c.if-is_unreached.ensures.1 b.2))
-
 pub returns : goal.returns
-returns c = λ k b. c.loop-b.invariant k (omega arith) b
+returns c =
+    let es = c.args.edges.now in
+    first_found (BreaksUnreached c.args.blocks es) (λ b. (p : ℕ) × (p < b) × Leads es p b → ⊥) (λ b. (p : ℕ) × (p < b) × Leads es p b) 1 c.args.blocks c.find.result
+    (first_from_Range _ _ _ c.find.result _ _ c.find.ensures.ran (λ x q k. search (rules, tests)) (λ x q k. search (rules, tests)))
+    (λ k l h free. (omega arith, omega arith, λ p below leads. free (p, below, leads)))
+    (λ k b. (omega arith, omega arith, λ (p, below, leads). b.2 p below leads))

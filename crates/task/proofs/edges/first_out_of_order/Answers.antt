@@ -1,18 +1,17 @@
-use Rattle.std.proofs.Common.{◌-◌, refl, arith, below_more}
-use Rattle.std.proofs.lemmas.Bool.{false≢true}
-use Rattle.task.proofs.Order.{after_each}
+use Rattle.std.proofs.Common.{ℕ, ◌-◌, ◌+◌, length, rules, tests, arith}
+use Rattle.std.proofs.lemmas.Bool.Decides.{nat_tests}
+use Rattle.std.proofs.lemmas.Iterator.{first_from_Range}
+use Rattle.task.specs.Graph.{edge_at}
+use Rattle.task.specs.Rules.{Before, BreaksEdgeOrder}
+use Rattle.task.proofs.Finite.{first_by}
+use Rattle.task.proofs.Order.{in_order}
 use Rattle.task.proofs.edges.first_out_of_order.Goals as goal
 
-pub returns-then-not-before : goal.returns-then-not-before
-returns-then-not-before c =
-    let k = c.loop-k.k in (
-      (c.loop-k-test.true, (k - 1, omega arith, λ b. false≢true (c.if-not-before.ensures.1 b))),
-      λ j h b. b.1.2 (c.loop-k.invariant j h b.1.0 b.1.1),
-    )
-
-pub loop-k-preserved : goal.loop-k-preserved
-loop-k-preserved c =
-    below_more _ _ c.loop-k.invariant (after_each c.args.edges.now c.loop-k.k c.loop-k.invariant (c.if-not-before.ensures.0 refl))
-
 pub returns : goal.returns
-returns c = λ j b. b.1.2 (c.loop-k.invariant j (omega arith) b.1.0 b.1.1)
+returns c =
+    let es = c.args.edges.now in
+    let After : ℕ → Type 0 = λ k. Before (edge_at es (k - 1)) (edge_at es k) in
+    first_by (BreaksEdgeOrder es) (λ k. After k → ⊥) After 1 (length es) c.find.result
+    (first_from_Range _ _ _ c.find.result (λ k. After k → ⊥) After c.find.ensures.ran (λ x q k. grind (arith, nat_tests)) (λ x q k. (search (rules, tests), grind (arith, nat_tests))))
+    (λ k l h unlike. (h, (k - 1, omega arith, unlike)))
+    (λ k b. (b.0, λ sorted. b.1.2 (in_order es (k + 1) (λ j pos l. sorted j (omega arith) (omega arith)) k (omega arith) b.1.0 b.1.1)))

@@ -1,16 +1,13 @@
-use Rattle.std.proofs.Common.{length, sym, ap, arith}
-use Rattle.task.proofs.Around.{around_more_in, around_more_out, around-all}
+use Rattle.std.proofs.Common.{length, ap, rules, tests, arith}
+use Rattle.std.proofs.lemmas.Iterator.{YieldsList-from_slice}
+use Rattle.std.proofs.lemmas.Iterator.Consumers.{YieldsList-from_filter, count_from_yields_List}
+use Rattle.task.specs.Graph.{within}
+use Rattle.task.proofs.Around.{around_filter}
 use Rattle.task.proofs.loops.levels.Goals as goal
-use Rattle.task.proofs.loops.levels.Goals.{then-within, else-within}
-
-pub loop-l-preserved : goal.loop-l-preserved
-loop-l-preserved c =
-    let ls = c.args.loops.now in
-    let i = c.loop-l.l-index in
-    elim c.if-within.branch [
-      | then-within w ↦ omega (arith, ap length (around_more_in ls i c.args.b c.loop-l-test.true (sym w.if-within.ensures.test)))
-      | else-within w ↦ omega (arith, ap length (around_more_out ls i c.args.b c.loop-l-test.true (sym w.if-within.ensures.test)))
-    ]
 
 pub returns : goal.returns
-returns c = omega (arith, ap length (around-all c.args.loops.now c.loop-l.l-index c.args.b c.loop-l-test.false))
+returns c =
+    let ls = c.args.loops.now in
+    let count = count_from_yields_List c.filter.result c.count.result c.count.ensures.ran
+    (YieldsList-from_filter _ (λ l. within l c.args.b) (YieldsList-from_slice ls cc) c.filter.ensures.closure (λ x r q k. search (rules, tests))) in
+    omega (arith, count, ap length (around_filter ls c.args.b))

@@ -1,33 +1,16 @@
-use Rattle.std.proofs.Common.{◌+◌, ◌*◌, sym, refl, arith}
-use Rattle.std.proofs.lemmas.Bool.{false≢true}
-use Rattle.task.proofs.Around.{limits_more_in, limits_more_out, limits-all, limits_grow}
+use Rattle.std.proofs.Common.{◌*◌, ◌-◌, ◌^◌, min, rules, tests, arith}
+use Rattle.std.proofs.lemmas.Iterator.{YieldsList-from_slice, YieldsList-from_map}
+use Rattle.std.proofs.lemmas.Iterator.Consumers.{YieldsList-at, YieldsList-from_filter, fold_from_yields_List}
+use Rattle.task.specs.Graph.{within}
+use Rattle.task.proofs.Around.{over_capped}
 use Rattle.task.proofs.loops.over_limit.Goals as goal
-use Rattle.task.proofs.loops.over_limit.Goals.{then-within+else-product-gt-MAX_LIMIT_PRODUCT, else-within}
-
-pub returns-then-product-gt-MAX_LIMIT_PRODUCT : goal.returns-then-product-gt-MAX_LIMIT_PRODUCT
-returns-then-product-gt-MAX_LIMIT_PRODUCT c =
-    let ls = c.args.loops.now in
-    let i = c.loop-l.l-index in
-    let b = c.args.b in
-    let p = c.loop-l.product in
-    let q = c.from-product.result in
-    let taken = limits_more_in ls i b p q c.loop-l-test.true (sym c.if-within.ensures.test) c.from-product.ensures in
-    let grown = limits_grow ls (i + 1) b (p * q) c.requires in
-    (λ _. omega arith, λ _. refl)
-
-pub loop-l-preserved : goal.loop-l-preserved
-loop-l-preserved c =
-    let ls = c.args.loops.now in
-    let i = c.loop-l.l-index in
-    let b = c.args.b in
-    let p = c.loop-l.product in
-    let h = c.loop-l-test.true in
-    elim c.if-within.branch [
-      | then-within+else-product-gt-MAX_LIMIT_PRODUCT w ↦ rw w.product-is (omega (arith, limits_more_in ls i b p w.from-product.result h (sym w.if-within.ensures.test) w.from-product.ensures))
-      | else-within w ↦ rw w.product-is (omega (arith, limits_more_out ls i b p h (sym w.if-within.ensures.test)))
-    ]
 
 pub returns : goal.returns
 returns c =
-    let all = limits-all c.args.loops.now c.loop-l.l-index c.args.b c.loop-l.product c.loop-l-test.false in
-    (λ e. absurd (false≢true e), λ h. absurd (omega arith))
+    let ls = c.args.loops.now in
+    over_capped (2 ^ 64 - 1) ls c.args.b c.fold-product.result (omega arith)
+    (fold_from_yields_List _ (λ p n. min (p * n) (2 ^ 64 - 1)) 1 c.fold-product.result c.fold-product.ensures.ran
+    (YieldsList-from_map _ (λ l. l.limit) (YieldsList-at c.map.ensures.source
+    (YieldsList-from_filter _ (λ l. within l c.args.b) (YieldsList-from_slice ls cc) c.filter.ensures.closure (λ x r q k. search (rules, tests))))
+    c.map.ensures.closure (λ x r q k. search rules))
+    (λ a x b q k. search (rules, tests)))
