@@ -1,6 +1,6 @@
 -- The search for the greatest charge: the loops from the last to the first, so that inner loops come before those around them.
 use Rattle.std.specs.Prelude.{ℕ, zero, suc, Bool, true, false, cond, ◌&&◌, List, [], ◌∷◌, map, length, drop, ◌==◌, nat_le, nat_lt, slice_index_or, slice_set}
-use Rattle.std.specs.List.{range_with_len}
+use Rattle.std.specs.List.{range_with_len, fold}
 use Rattle.records.specs.declared.parts.Loop.{Loop}
 use Rattle.records.specs.declared.parts.Edge.{Edge}
 use Rattle.records.specs.Contents.{Contents}
@@ -119,8 +119,7 @@ module _ {T : Type 0} (m : Ops T) where
 
   -- the greatest charge to any block
   abbrev pub highest : List (Cell T) → T → T
-  highest [] x = x
-  highest (y ∷ s) x = highest s (greater x y.weight.first)
+  highest s x = fold (λ y cell. greater y cell.weight.first) x s
 
   abbrev pub figure_of : Costs T → Contents → T
   figure_of costs c = highest (table costs c) m.none

@@ -33,10 +33,14 @@ pub record Cheap {T : Type 0} (size : T → ℕ) (costs : Costs T) (c : Contents
 abbrev pub Low : {T : Type 0} → Ops T → List (Cell T) → Type 0
 Low m s = (a : ℕ) → (cell_at m s a).anchor ≤ a
 
+-- what is charged is small in each kind of round
+abbrev pub BothSmall : {T : Type 0} → (T → ℕ) → ByRound T → Type 0
+BothSmall size x = (size x.first < 2 ^ 63) × (size x.later < 2 ^ 63)
+
 module _ {T : Type 0} (m : Ops T) (size : T → ℕ) where
   -- the values of the loop's blocks are small
   abbrev pub ValuesSmall : Loop → List (Cell T) → Type 0
-  ValuesSmall l s = (b : ℕ) → Within l b → (size (value m s b).first < 2 ^ 63) × (size (value m s b).later < 2 ^ 63)
+  ValuesSmall l s = (b : ℕ) → Within l b → BothSmall size (value m s b)
 
   -- the sums of a stay at a block of this value: of one round, and of as many as the limit allows
   pub record Small (limit : ℕ) (stay : T) (turn x : ByRound T) : Type 0 where

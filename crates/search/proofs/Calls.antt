@@ -1,123 +1,108 @@
 -- From an accepted call to the table, and from the table to the answer.
-use Rattle.std.proofs.Common.{◌≡◌, ℕ, suc, ◌+◌, ◌-◌, ◌<◌, ◌≤◌, Bool, ◌&&◌, eqb, List, length, get_or, drop, Decides, sym, ap, ◌∙◌, subst, ap₂, arith}
-use Rattle.std.proofs.lemmas.List.{get_or_read}
+use Rattle.std.proofs.Common.{◌≡◌, ℕ, suc, ◌+◌, ◌-◌, ◌<◌, ◌≤◌, Bool, ◌&&◌, eqb, List, length, get_or, Decides, sym, ap, ◌∙◌, subst, ap₂, arith, drop-cons}
 use Rattle.std.proofs.lemmas.Bool.{and_parts, and_from, eqb-true, eq-eqb}
+use Rattle.std.proofs.lemmas.List.{get_or_read}
+use Rattle.std.proofs.lemmas.List.Elements.{All-get_or}
+use lib.Seq.{drop-length}
 use Rattle.records.specs.declared.parts.Loop.{Loop}
 use Rattle.records.specs.declared.parts.Edge.{Edge}
 use Rattle.records.specs.Contents.{Contents}
 use Rattle.records.specs.Layout.{InFormat}
-use Rattle.records.proofs.Ranges.{ranges}
 use Rattle.task.specs.Graph.{loop_at}
 use Rattle.task.specs.Rules.{Sound}
 use Rattle.walks.specs.Walk.{all_loops}
 use Rattle.tally.specs.Laws.{Ops, TallyLaws}
+use Rattle.longest.specs.declared.ByRound.{ByRound}
 use Rattle.longest.specs.declared.Cell.{Cell}
 use Rattle.longest.specs.Charge.{Costs, GreatestAt, Greatest}
-use Rattle.longest.specs.Search.{cell_at, loop_done, loops_done, start_cells, table_from, table, highest, figure_of}
+use Rattle.longest.specs.Search.{none_yet, cell_at, loop_done, loops_done, start_cells, table_from, table, highest, figure_of}
 use Rattle.longest.specs.Sizes.{Cheap, Ready}
 use Rattle.longest.proofs.Sizes.{ready}
 use Rattle.longest.proofs.Theorem.{table_greatest, finds}
 use Rattle.longest.proofs.Shape.{shape}
-use Rattle.search.specs.Outcome.{costs_of, CostList, Accepted, Found}
+use Rattle.search.specs.Outcome.{costs_of, Fits, BothFit, CostList, Accepted, Found}
 
-module _ {T : Type 0} (m : Ops T) (size : T → ℕ) (c : Contents) (fs ns ss : List T) (s : List (Cell T)) where
-  pub accepts_decides : (a b d : Bool) (n k : ℕ) → Decides a (CostList m size n fs) → Decides b (CostList m size n ns)
-      → Decides d (CostList m size (k + 1) ss) → n ≡ length c.blocks → k ≡ length c.loops
-      → Decides (((a && b) && d) && eqb (length s) n) (Accepted m size c fs ns ss s)
-  accepts_decides a b d n k p q r n-is k-is =
+module _ {T : Type 0} (size : T → ℕ) (c : Contents) (bs : List (ByRound T)) (ss : List T) (s : List (Cell T)) where
+  pub accepts_decides : (a b : Bool) (n k : ℕ) → Decides a (CostList (BothFit size) n bs) → Decides b (CostList (Fits size) (k + 1) ss)
+      → n ≡ length c.blocks → k ≡ length c.loops → Decides ((a && b) && eqb (length s) n) (Accepted size c bs ss s)
+  accepts_decides a b n k p q n-is k-is =
       let k_suc : k + 1 ≡ suc (length c.loops) = omega arith in (
         (λ t.
-            let all = and_parts ((a && b) && d) (eqb (length s) n) t in
-            let three = and_parts (a && b) d all.0 in
-            let two = and_parts a b three.0 in
+            let all = and_parts (a && b) (eqb (length s) n) t in
+            let two = and_parts a b all.0 in
             record {
-              first = subst (λ x. CostList m size x fs) n-is (p.0 two.0);
-              later = subst (λ x. CostList m size x ns) n-is (q.0 two.1);
-              stays = subst (λ x. CostList m size x ss) k_suc (r.0 three.1);
+              blocks = subst (λ x. CostList (BothFit size) x bs) n-is (p.0 two.0);
+              stays = subst (λ x. CostList (Fits size) x ss) k_suc (q.0 two.1);
               cells = eqb-true (length s) n all.1 ∙ n-is;
             }),
         λ ok.
-            let one = p.1 (subst (λ x. CostList m size x fs) (sym n-is) ok.first) in
-            let two = q.1 (subst (λ x. CostList m size x ns) (sym n-is) ok.later) in
-            let three = r.1 (subst (λ x. CostList m size x ss) (sym k_suc) ok.stays) in
-            and_from ((a && b) && d) (eqb (length s) n) (and_from (a && b) d (and_from a b one two) three)
-            (eq-eqb (length s) n (ok.cells ∙ sym n-is)),
+            let one = p.1 (subst (λ x. CostList (BothFit size) x bs) (sym n-is) ok.blocks) in
+            let two = q.1 (subst (λ x. CostList (Fits size) x ss) (sym k_suc) ok.stays) in
+            and_from (a && b) (eqb (length s) n) (and_from a b one two) (eq-eqb (length s) n (ok.cells ∙ sym n-is)),
       )
 
-  module _ (lawful : TallyLaws m size) (format : InFormat c) (sound : Sound c) (ok : Accepted m size c fs ns ss s) where
-    abbrev costs : Costs T
-    costs = costs_of m fs ns ss
+module _ {T : Type 0} (m : Ops T) (size : T → ℕ) (c : Contents) (bs : List (ByRound T)) (ss : List T) (s : List (Cell T)) (lawful : TallyLaws m size)
+    (format : InFormat c) (sound : Sound c) (ok : Accepted size c bs ss s) where
+  abbrev costs : Costs T
+  costs = costs_of m bs ss
 
-    abbrev stay : ℕ → T
-    stay k = get_or ss k m.none
+  cheap : Cheap size costs c
+  cheap =
+      let fit : (b : ℕ) → b < length c.blocks → BothFit size (get_or bs b (none_yet m)) =
+      λ b h. All-get_or (BothFit size) bs b (none_yet m) (omega (arith, ok.blocks.long)) ok.blocks.fit in
+      record {
+        first = λ b h. (fit b h).0;
+        later = λ b h. (fit b h).1;
+        stay = λ i h. All-get_or (Fits size) ss i m.none (omega (arith, ok.stays.long)) ok.stays.fit;
+      }
 
-    cheap : Cheap size costs c
-    cheap = record {
-      first = λ b h. ok.first.fits b (omega (arith, ok.first.long));
-      later = λ b h. ok.later.fits b (omega (arith, ok.later.long));
-      stay = λ i h. ok.stays.fits i (omega (arith, ok.stays.long));
-    }
+  loops_long : length (all_loops c) ≡ length ss
+  loops_long = omega (arith, ok.stays.long)
 
-    ready_at : (i : ℕ) → i < length (all_loops c)
-        → Ready m size c.edges (loop_at (all_loops c) i) (costs.stay i) (table_from m costs c (suc i))
-    ready_at = ready lawful costs c format sound cheap
+  pub start_long : length bs ≡ length s
+  start_long = ok.blocks.long ∙ sym ok.cells
 
-    pub some_cells : 1 ≤ length s
-    some_cells = omega (arith, ok.cells, (ranges c format).some)
+  -- no loop is done yet
+  pub table_none : (n : ℕ) (u : List (Cell T)) → n ≡ length ss → u ≡ start_cells m costs (length s) → u ≡ table_from m costs c n
+  table_none n u n-is u-is =
+      u-is ∙ ap (start_cells m costs) ok.cells
+      ∙ sym (ap (λ k. table_from m costs c k) (n-is ∙ sym loops_long)
+      ∙ ap (λ ls. loops_done m c.edges costs.stay ls (length (all_loops c)) (start_cells m costs (length c.blocks))) (drop-length (all_loops c)))
 
-    module _ (es : List Edge) (es-is : es ≡ c.edges) (ls : List Loop) (ls-is : ls ≡ c.loops) (u : List (Cell T))
-        (u-is : u ≡ start_cells m costs (length s)) where
-      start_is : u ≡ start_cells m costs (length c.blocks)
-      start_is = u-is ∙ ap (start_cells m costs) ok.cells
+  -- the loops from number n on are done, and the one before them is next
+  module _ (n : ℕ) (some : 0 < n) (high : n ≤ length ss) (u : List (Cell T)) (u-is : u ≡ table_from m costs c n)
+      (es : List Edge) (es-is : es ≡ c.edges) (l : Loop) (l-is : l ≡ loop_at (all_loops c) (n - 1)) (x : T) (x-is : x ≡ get_or ss (n - 1) x) where
+    stay_is : x ≡ costs.stay (n - 1)
+    stay_is = get_or_read ss (n - 1) x (omega arith) x-is m.none
 
-      pub stays_long : length ss ≡ suc (length ls)
-      stays_long = ok.stays.long ∙ ap (λ x. suc (length x)) (sym ls-is)
+    held_is : u ≡ table_from m costs c (suc (n - 1))
+    held_is = let e : n ≡ suc (n - 1) = omega arith in u-is ∙ ap (table_from m costs c) e
 
-      pub each_ready : (i : ℕ) → i < length ls
-          → Ready m size es (loop_at ls i) (stay (suc i)) (loops_done m es stay (drop (suc i) ls) (suc (suc i)) u)
-      each_ready =
-          subst (λ x. (i : ℕ) → i < length ls
-          → Ready m size x (loop_at ls i) (stay (suc i)) (loops_done m x stay (drop (suc i) ls) (suc (suc i)) u)) (sym es-is)
-          (subst (λ x. (i : ℕ) → i < length x
-          → Ready m size c.edges (loop_at x i) (stay (suc i)) (loops_done m c.edges stay (drop (suc i) x) (suc (suc i)) u))
-          (sym ls-is)
-          (subst (λ x. (i : ℕ) → i < length c.loops
-          → Ready m size c.edges (loop_at c.loops i) (stay (suc i))
-          (loops_done m c.edges stay (drop (suc i) c.loops) (suc (suc i)) x)) (sym start_is)
-          (λ i h. ready_at (suc i) (omega arith))))
+    pub loop_ready : Ready m size es l x u
+    loop_ready =
+        subst (λ ds. Ready m size ds l x u) (sym es-is) (subst (λ k. Ready m size c.edges k x u) (sym l-is)
+        (subst (λ y. Ready m size c.edges (loop_at (all_loops c) (n - 1)) y u) (sym stay_is)
+        (subst (Ready m size c.edges (loop_at (all_loops c) (n - 1)) (costs.stay (n - 1))) (sym held_is)
+        (ready lawful costs c format sound cheap (n - 1) (omega (arith, loops_long))))))
 
-      module _ (v : List (Cell T)) (v-is : v ≡ loops_done m es stay ls 1 u) (fs' : List Edge) (fs-is : fs' ≡ c.edges) (x : T)
-          (x-is : x ≡ get_or ss 0 x) where
-        named_is : v ≡ table_from m costs c 1
-        named_is =
-            v-is ∙ ap (λ ds. loops_done m ds stay ls 1 u) es-is ∙ ap (λ ds. loops_done m c.edges stay ds 1 u) ls-is
-            ∙ ap (loops_done m c.edges stay c.loops 1) start_is
+    pub loop_more : (v : List (Cell T)) → v ≡ loop_done m es l x u → v ≡ table_from m costs c (n - 1)
+    loop_more v is =
+        is ∙ ap₂ (λ ds k. loop_done m ds k x u) es-is l-is
+        ∙ ap₂ (loop_done m c.edges (loop_at (all_loops c) (n - 1))) stay_is held_is
+        ∙ sym (ap (λ ls. loops_done m c.edges costs.stay ls (n - 1) (start_cells m costs (length c.blocks)))
+        (drop-cons (all_loops c) (n - 1) _ (omega (arith, loops_long))))
 
-        task_stay : x ≡ stay 0
-        task_stay = get_or_read ss 0 x (omega (arith, ok.stays.long)) x-is m.none
+  -- every loop is done
+  pub table_all : (n : ℕ) (u : List (Cell T)) → n ≡ 0 → u ≡ table_from m costs c n → u ≡ table m costs c
+  table_all n u n-is u-is = u-is ∙ ap (table_from m costs c) n-is
 
-        abbrev task_of : ℕ → Loop
-        task_of n = record { header = 0; last = n - 1; limit = 1 }
-
-        pub task_ready : Ready m size fs' (task_of (length s)) x v
-        task_ready =
-            subst (λ ds. Ready m size ds (task_of (length s)) x v) (sym fs-is)
-            (subst (λ n. Ready m size c.edges (task_of n) x v) (sym ok.cells)
-            (subst (λ y. Ready m size c.edges (task_of (length c.blocks)) y v) (sym task_stay)
-            (subst (Ready m size c.edges (task_of (length c.blocks)) (stay 0)) (sym named_is) (ready_at 0 (omega arith)))))
-
-        pub table_is : (w : List (Cell T)) → w ≡ loop_done m fs' (task_of (length s)) x v → w ≡ table m costs c
-        table_is w w-is =
-            w-is ∙ ap (λ ds. loop_done m ds (task_of (length s)) x v) fs-is ∙ ap (λ n. loop_done m c.edges (task_of n) x v) ok.cells
-            ∙ ap₂ (loop_done m c.edges (task_of (length c.blocks))) task_stay named_is
-
-    pub found : (w : List (Cell T)) (t : T) → w ≡ table m costs c → t ≡ highest m w m.none → Found m costs c w t
-    found w t w-is t-is =
-        let figure : t ≡ figure_of m costs c = t-is ∙ ap (λ y. highest m y m.none) w-is in
-        record {
-          greatest = subst (Greatest m costs c) (sym figure) (finds lawful costs c format sound);
-          figure = figure;
-          cells = w-is;
-          each = λ b h.
-              subst (λ y. GreatestAt m costs c b (cell_at m y b).weight.first) (sym w-is) (table_greatest lawful costs c (shape c format sound) b h);
-        }
+  pub found : (w : List (Cell T)) (t : T) → w ≡ table m costs c → t ≡ highest m w m.none → Found m costs c w t
+  found w t w-is t-is =
+      let figure : t ≡ figure_of m costs c = t-is ∙ ap (λ y. highest m y m.none) w-is in
+      record {
+        greatest = subst (Greatest m costs c) (sym figure) (finds lawful costs c format sound);
+        figure = figure;
+        cells = w-is;
+        each = λ b h.
+            subst (λ y. GreatestAt m costs c b (cell_at m y b).weight.first) (sym w-is) (table_greatest lawful costs c (shape c format sound) b h);
+      }

@@ -1,17 +1,16 @@
 -- The steps of the search's loops, over plain lists.
-use Rattle.std.proofs.Common.{◌≡◌, ℕ, zero, suc, ◌+◌, ◌-◌, ◌*◌, ◌^◌, ◌<◌, ◌≤◌, true, false, List, [], ◌∷◌, length, get_or, drop, set, sym, refl, ap, ◌∙◌, subst, ap₂, inl, inr, arith, drop-cons, get_or-set_other, get_or-set_same}
+use Rattle.std.proofs.Common.{◌≡◌, ℕ, zero, suc, ◌+◌, ◌-◌, ◌*◌, ◌^◌, ◌<◌, ◌≤◌, true, false, List, [], ◌∷◌, length, get_or, drop, set, sym, refl, ap, ◌∙◌, subst, ap₂, inl, inr, arith, get_or-set_other, get_or-set_same}
 use Rattle.std.proofs.lemmas.List.{get_or_read, drop_more, at_drop_more, ext_get_or}
 use Rattle.std.proofs.lemmas.Bool.{cases_lt, cases_eq}
-use lib.Seq.{drop-length}
 use Rattle.std.proofs.lemmas.List.FromFn.{fill_by_all}
 use Rattle.records.specs.declared.parts.Loop.{Loop}
 use Rattle.records.specs.declared.parts.Edge.{Edge}
-use Rattle.task.specs.Graph.{edge_at, loop_at, Within}
+use Rattle.task.specs.Graph.{edge_at, Within}
 use Rattle.tally.specs.Laws.{Ops, TallyLaws}
 use Rattle.longest.specs.declared.ByRound.{ByRound}
 use Rattle.longest.specs.declared.Cell.{Cell}
 use Rattle.longest.specs.Charge.{Costs}
-use Rattle.longest.specs.Search.{forward, backward, plus_both, greater_both, none_yet, cell_at, value, arrived, pushed, round_of, turned, before, whole, stayed, closed, loop_done, loops_done, start_cell, start_cells, greater, highest}
+use Rattle.longest.specs.Search.{forward, backward, plus_both, greater_both, none_yet, cell_at, value, arrived, pushed, round_of, turned, before, whole, stayed, closed, start_cell, start_cells}
 use Rattle.longest.specs.Sizes.{Sorted, Low, BacksInside, ValuesSmall, Small, Ready}
 use Rattle.longest.proofs.Pushes.{forward_parts, backward_parts, pushed_yes, pushed_no, pushed_alike, low_alike, round_alike, value_head}
 use Rattle.longest.proofs.Tables.{blank, closed_long, closed_in, closed_out, closed_low}
@@ -181,43 +180,6 @@ module _ {T : Type 0} (m : Ops T) (size : T → ℕ) (es : List Edge) (l : Loop)
       let t : turned m l (round_of m l es s) es (none_yet m) ≡ turn = ap (λ v. turned m l v es (none_yet m)) (sym is) ∙ sym turn_is in
       subst (λ v. Small m size l.limit stay turn (value m v b)) (sym is)
       (subst (λ v. Small m size l.limit stay v (value m (round_of m l es s) b)) t (r.small b q))
-
--- one named loop more, loop number i among all loops
-module _ {T : Type 0} (m : Ops T) (size : T → ℕ) (es : List Edge) (loops : List Loop) (stays : List T) (s : List (Cell T)) where
-  abbrev stay : ℕ → T
-  stay k = get_or stays k m.none
-
-  abbrev pub from : ℕ → List (Cell T)
-  from i = loops_done m es stay (drop i loops) (suc i) s
-
-  pub named_none : s ≡ from (length loops)
-  named_none = sym (ap (λ ls. loops_done m es stay ls (suc (length loops)) s) (drop-length loops))
-
-  module _ (i : ℕ) (x : T) (pos : 0 < i) (most : i ≤ length loops) (long : length stays ≡ suc (length loops))
-      (x-is : x ≡ get_or stays (i - 1 + 1) x) (u : List (Cell T)) (inv : u ≡ from i) where
-    stay_is : x ≡ stay (suc (i - 1))
-    stay_is = let e : i - 1 + 1 ≡ suc (i - 1) = omega arith in get_or_read stays (i - 1 + 1) x (omega arith) x-is m.none ∙ ap stay e
-
-    held_is : u ≡ from (suc (i - 1))
-    held_is = let e : i ≡ suc (i - 1) = omega arith in inv ∙ ap from e
-
-    pub named_ready : ((k : ℕ) → k < length loops → Ready m size es (loop_at loops k) (stay (suc k)) (from (suc k)))
-        → Ready m size es (loop_at loops (i - 1)) x u
-    named_ready each =
-        subst (λ y. Ready m size es (loop_at loops (i - 1)) y u) (sym stay_is)
-        (subst (Ready m size es (loop_at loops (i - 1)) (stay (suc (i - 1)))) (sym held_is) (each (i - 1) (omega arith)))
-
-    pub named_more : (v : List (Cell T)) → v ≡ loop_done m es (loop_at loops (i - 1)) x u → v ≡ from (i - 1)
-    named_more v is =
-        is ∙ ap₂ (loop_done m es (loop_at loops (i - 1))) stay_is held_is
-        ∙ sym (ap (λ ls. loops_done m es stay ls (suc (i - 1)) s) (drop-cons loops (i - 1) _ (omega arith)))
-
--- the greatest so far
-pub highest_more : {T : Type 0} (m : Ops T) (s : List (Cell T)) (k : ℕ) (c : Cell T) (x y : T) → k < length s → c ≡ get_or s k c
-    → y ≡ greater m x c.weight.first → highest m (drop (k + 1) s) y ≡ highest m (drop k s) x
-highest_more m s k c x y h is y-is =
-    ap (highest m (drop (k + 1) s)) (y-is ∙ ap (λ d. greater m x d.weight.first) (get_or_read s k c h is (blank m)))
-    ∙ sym (at_drop_more (λ u. highest m u x) s k (blank m) h)
 
 -- the blocks by themselves
 pub start-all : {T : Type 0} (m : Ops T) (costs : Costs T) (u : List (Cell T)) (n : ℕ) → length u ≡ n

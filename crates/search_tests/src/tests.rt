@@ -1,4 +1,4 @@
-use crate::every_walk::{first_cost, greatest, later_cost, stay_cost};
+use crate::every_walk::{block_cost, greatest, stay_cost};
 use load::load;
 use longest::{ByRound, Cell};
 use search::greatest_charge;
@@ -11,32 +11,12 @@ fn searched(rt: &impl AllocGlobal, text: &[u8]) -> Result<u64, Fail> {
     let Ok(task) = load(rt.alloc(), text) else {
         return Err(Fail::new("refused"));
     };
-    let mut first = Vec::new(rt.alloc());
-    let mut later = Vec::new(rt.alloc());
-    let mut work = Vec::new(rt.alloc());
-    for b in 0..task.record.blocks.len() {
-        first.push(first_cost(b))?;
-        later.push(later_cost(b))?;
-        let none = ByRound { first: 0, later: 0 };
-        work.push(Cell {
-            anchor: 0,
-            reach: none,
-            weight: none,
-        })?;
-    }
-    let mut stays = Vec::new(rt.alloc());
-    stays.push(stay_cost(0))?;
-    for i in 0..task.record.loops.len() {
-        stays.push(stay_cost(i.saturating_add(1)))?;
-    }
-    let found = greatest_charge(
-        &task,
-        first.as_slice(),
-        later.as_slice(),
-        stays.as_slice(),
-        &mut work,
-    );
-    Ok(found.ok_or("not searched")?)
+    let blocks = task.record.blocks.len();
+    let numbers = task.record.loops.len().saturating_add(1);
+    let costs: Vec<ByRound<u64>> = (0..blocks).map(block_cost).collect(rt.alloc())?;
+    let stays: Vec<u64> = (0..numbers).map(stay_cost).collect(rt.alloc())?;
+    let mut work = vec![in rt.alloc(); Cell::blank(); blocks]?;
+    Ok(greatest_charge(&task, &costs, &stays, &mut work).ok_or("not searched")?)
 }
 
 // Every walk of the record has at most `steps` steps: one more finds nothing greater.

@@ -1,55 +1,46 @@
 // What a walk is charged: anything that can be added up and compared.
 #![tactic(auto)]
 
-ghost use Rattle.std.specs.Prelude.{◌≡◌, ℕ, ◌+◌, ◌*◌, ◌^◌, ◌<◌, Bool, nat_lt};
-ghost use Rattle.tally.specs.Laws.{TallyLaws, ops_of};
-ghost use Rattle.tally.specs.Kinds.{added_cycles, many_cycles, fewer_cycles, cycles_size, no_pair, added_pairs, many_pairs, lower_pair, pair_size};
+ghost use Rattle.std.specs.Prelude.{◌≡◌, ℕ, ◌+◌, ◌*◌, ◌^◌, ◌<◌, nat_lt};
+ghost use Rattle.tally.specs.Laws.{Ops, TallyLaws};
+ghost use Rattle.tally.specs.Kinds.{cycles, cycles_size, pairs, pair_size};
 ghost use Rattle.tally.specs.Lawful.{cycles_lawful, pairs_lawful};
 
 // The costs that `fits` accepts are smaller than this.
-const COST_LIMIT: u64 = 0x1_0000_0000;
+const COST_LIMIT: u64 = 1 << 32;
 
 // The ghost operations are those of unbounded numbers; the code agrees with them where the sizes
 // stay below 2 to the 63rd.
 pub trait Tally: Copy {
-    ghost none: { Self };
+    ghost ops: { Ops Self };
 
-    ghost plus: { Self → Self → Self };
-
-    ghost multiple: { ℕ → Self → Self };
-
-    ghost below: { Self → Self → Bool };
-
+    // How large the parts are together.
     ghost size: { Self → ℕ };
 
     fn zero() -> Self
-        ensures { result ≡ none };
+        ensures { result ≡ ops.none };
 
     fn add(self, other: Self) -> Self
-        ensures { size self + size other < 2 ^ 63 → result ≡ plus self other };
+        ensures { size self + size other < 2 ^ 63 → result ≡ ops.plus self other };
 
     fn times(self, n: u32) -> Self
-        ensures { n * size self < 2 ^ 63 → result ≡ multiple n self };
+        ensures { n * size self < 2 ^ 63 → result ≡ ops.times n self };
 
+    // Not `Ord`: this clause ties the order to the operations that the laws are about, and an `Ord`
+    // of the type would need a law of its own for that.
     fn less(&self, other: &Self) -> bool
-        ensures { result ≡ below self.now other.now };
+        ensures { result ≡ ops.below self.now other.now };
 
     // Whether this is small enough for the cost of one block or of one stay.
     fn fits(&self) -> bool
         ensures { result ≡ nat_lt (size self.now) (2 ^ 32) };
 
-    ghost lawful: { TallyLaws (ops_of none plus multiple below) size };
+    ghost lawful: { TallyLaws ops size };
 }
 
 // Cycles.
 impl Tally for u64 {
-    ghost none = { 0 };
-
-    ghost plus = { added_cycles };
-
-    ghost multiple = { many_cycles };
-
-    ghost below = { fewer_cycles };
+    ghost ops = { cycles };
 
     ghost size = { cycles_size };
 
@@ -78,13 +69,7 @@ impl Tally for u64 {
 
 // Charged misses, and then fetches.
 impl Tally for (u64, u64) {
-    ghost none = { no_pair };
-
-    ghost plus = { added_pairs };
-
-    ghost multiple = { many_pairs };
-
-    ghost below = { lower_pair };
+    ghost ops = { pairs };
 
     ghost size = { pair_size };
 
@@ -109,7 +94,7 @@ impl Tally for (u64, u64) {
     }
 
     fn less(&self, other: &(u64, u64)) -> bool {
-        self.0 < other.0 || (self.0 == other.0 && self.1 < other.1)
+        self < other
     }
 
     fn fits(&self) -> bool {

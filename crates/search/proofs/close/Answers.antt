@@ -1,6 +1,5 @@
 -- Each turn closes one block.
 use Rattle.std.proofs.Common.{◌-◌, sym, ap, subst, arith}
-use Rattle.tally.specs.Laws.{ops_of}
 use Rattle.longest.specs.Search.{value, whole}
 use Rattle.longest.specs.Sizes.{Small}
 use Rattle.search.proofs.Steps.{Closing, closing_none, closing_low, closing_value, closing_more, closing_all}
@@ -9,19 +8,18 @@ use Rattle.search.proofs.close.Goals as goal
 pub loop-b-init : goal.loop-b-init
 loop-b-init g c =
     let t = g.T.Tally in
-    closing_none (ops_of t.none t.plus t.multiple t.below) c.args.l c.args.stay c.args.turn c.args.work.now
+    closing_none t.ops c.args.l c.args.stay c.args.turn c.args.work.now
     c.requires.low c.requires.room
 
 pub close_block-requires : goal.close_block-requires
 close_block-requires g c =
     let t = g.T.Tally in
-    let m = ops_of t.none t.plus t.multiple t.below in
+    let m = t.ops in
     let l = c.args.l in
     let b = c.loop-b.b in
     let v = closing_value m l c.args.stay c.args.turn c.args.work.now c.requires.low c.requires.room c.loop-b.work b
     c.loop-b.invariant (omega arith) in
     record {
-      some = c.requires.some;
       block = omega (arith, c.requires.room, c.loop-b.auto.work);
       low = closing_low m l c.args.stay c.args.turn c.args.work.now c.requires.low c.requires.room c.loop-b.work b
           c.loop-b.invariant;
@@ -32,7 +30,7 @@ close_block-requires g c =
 pub loop-b-preserved : goal.loop-b-preserved
 loop-b-preserved g c =
     let t = g.T.Tally in
-    let m = ops_of t.none t.plus t.multiple t.below in
+    let m = t.ops in
     let l = c.args.l in
     let b = c.loop-b.b in
     let v = closing_value m l c.args.stay c.args.turn c.args.work.now c.requires.low c.requires.room c.loop-b.work b
@@ -47,5 +45,5 @@ loop-b-preserved g c =
 pub returns : goal.returns
 returns g c =
     let t = g.T.Tally in
-    closing_all (ops_of t.none t.plus t.multiple t.below) c.args.l c.args.stay c.args.turn c.args.work.now
+    closing_all t.ops c.args.l c.args.stay c.args.turn c.args.work.now
     c.requires.low c.requires.room c.loop-b.work c.loop-b.b c.loop-b.invariant c.loop-b-test.false c.loop-b.auto.work

@@ -1,7 +1,6 @@
 -- The table has the greatest charge to each block, and the answer is the greatest of these.
 use Rattle.std.proofs.Common.{refl}
 use Rattle.std.proofs.lemmas.Bool.{false≢true}
-use Rattle.tally.specs.Laws.{ops_of}
 use Rattle.task.specs.View.{task_contents}
 use Rattle.search.proofs.Calls.{found}
 use Rattle.search.proofs.greatest_charge.Goals as goal
@@ -15,11 +14,10 @@ fill_table-requires g c = c.if-not-accepts.ensures.0 refl
 pub returns : goal.returns
 returns g c =
     let t = g.T.Tally in
-    let m = ops_of t.none t.plus t.multiple t.below in
     let task = c.args.task.now in
     let ok = c.if-not-accepts.ensures.0 refl in (
       ok,
-      found m t.size (task_contents task) c.args.first.now c.args.later.now c.args.stays.now c.args.work.now
-          g.met.T.Tally.lawful task.«record».ranges task.sound ok c.fill_table.new.work c.highest_of.result
-          c.fill_table.ensures c.highest_of.ensures,
+      found t.ops t.size (task_contents task) c.args.costs.now c.args.stays.now c.args.work.now g.met.T.Tally.lawful
+          task.«record».ranges task.sound ok c.fill_table.new.work c.highest_of.result c.fill_table.ensures
+          c.highest_of.ensures,
     )

@@ -1,12 +1,11 @@
 -- What the round leaves is what the other two steps start from.
-use Rattle.tally.specs.Laws.{ops_of}
 use Rattle.search.proofs.Steps.{round_low, round_room, round_values, round_small}
 use Rattle.search.proofs.one_loop.Goals as goal
 
 pub turn_of-turn-requires : goal.turn_of-turn-requires
 turn_of-turn-requires g c =
     let t = g.T.Tally in
-    let m = ops_of t.none t.plus t.multiple t.below in
+    let m = t.ops in
     record {
       low = round_low m t.size c.args.edges.now c.args.l c.args.stay c.args.work.now c.requires
           c.pass_round.new.work c.pass_round.ensures;
@@ -20,9 +19,8 @@ turn_of-turn-requires g c =
 pub close-requires : goal.close-requires
 close-requires g c =
     let t = g.T.Tally in
-    let m = ops_of t.none t.plus t.multiple t.below in
+    let m = t.ops in
     record {
-      some = c.requires.some;
       low = round_low m t.size c.args.edges.now c.args.l c.args.stay c.args.work.now c.requires
           c.pass_round.new.work c.pass_round.ensures;
       room = round_room m t.size c.args.edges.now c.args.l c.args.stay c.args.work.now c.requires

@@ -2,7 +2,6 @@
 use Rattle.std.proofs.Common.{◌<◌, length, sym, ap, ◌∙◌, arith}
 use Rattle.std.proofs.lemmas.List.{at_drop_all}
 use Rattle.task.specs.Graph.{edge_at}
-use Rattle.tally.specs.Laws.{ops_of}
 use Rattle.longest.specs.Search.{round_of, arrived}
 use Rattle.longest.proofs.Pushes.{forward_parts}
 use Rattle.search.proofs.Steps.{pushed_next, passed_next, round_again, small_turn}
@@ -12,7 +11,7 @@ use Rattle.search.proofs.pass_round.Goals.{then-is_forward, else-is_forward}
 pub value_at-x-requires : goal.value_at-x-requires
 value_at-x-requires g c =
     let t = g.T.Tally in
-    let m = ops_of t.none t.plus t.multiple t.below in
+    let m = t.ops in
     let l = c.args.l in
     let es = c.args.edges.now in
     let k = c.loop-e.e-index in
@@ -21,12 +20,12 @@ value_at-x-requires g c =
     let room : l.last < length c.loop-e.work = omega (arith, c.requires.room, c.loop-e.auto.work) in
     let s = small_turn m l es k c.loop-e-test.true c.loop-e.work c.loop-e.invariant.1 room t.size _ c.requires.sorted yes
     c.loop-e.invariant.0 c.requires.small in
-    record { block = omega arith; low = c.loop-e.invariant.1; one = s.0; more = s.1 }
+    record { block = omega arith; low = c.loop-e.invariant.1; small = s }
 
 pub loop-e-preserved : goal.loop-e-preserved
 loop-e-preserved g c =
     let t = g.T.Tally in
-    let m = ops_of t.none t.plus t.multiple t.below in
+    let m = t.ops in
     let l = c.args.l in
     let es = c.args.edges.now in
     let k = c.loop-e.e-index in
@@ -46,6 +45,6 @@ loop-e-preserved g c =
 pub returns : goal.returns
 returns g c =
     let t = g.T.Tally in
-    let m = ops_of t.none t.plus t.multiple t.below in
+    let m = t.ops in
     sym (at_drop_all (λ es. round_of m c.args.l es c.loop-e.work) c.args.edges.now c.loop-e.e-index c.loop-e-test.false)
     ∙ c.loop-e.invariant.0

@@ -1,10 +1,9 @@
-use Rattle.std.proofs.Common.{◌≡◌, ℕ, ◌<◌, get_or}
-use Rattle.tally.specs.Laws.{ops_of}
-use Rattle.longest.specs.Search.{by_round, cell_of, none_yet, cell_at}
+use Rattle.std.proofs.Common.{◌≡◌, ℕ, ◌<◌}
+use Rattle.longest.specs.Search.{cell_of, none_yet, cell_at}
+use Rattle.search.specs.Outcome.{cost_at}
 use Rattle.search.proofs.start.Given as goal
 
 abbrev pub invariant-loop-b : goal.invariant-loop-b
 invariant-loop-b g l =
-    let t = g.T.Tally in
-    let m = ops_of t.none t.plus t.multiple t.below in
-    (k : ℕ) → k < l.b → cell_at m l.work k ≡ cell_of k (none_yet m) (by_round (get_or l.first k t.none) (get_or l.later k t.none))
+    let m = g.T.Tally.ops in
+    (k : ℕ) → k < l.b → cell_at m l.work k ≡ cell_of k (none_yet m) (cost_at m l.costs k)

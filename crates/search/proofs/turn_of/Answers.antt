@@ -2,7 +2,6 @@
 use Rattle.std.proofs.Common.{sym, ap, ◌∙◌, arith}
 use Rattle.std.proofs.lemmas.List.{at_drop_all}
 use Rattle.task.specs.Graph.{edge_at}
-use Rattle.tally.specs.Laws.{ops_of}
 use Rattle.longest.specs.Search.{greater_both, turned}
 use Rattle.search.proofs.Steps.{turned_taken, turned_left, back_block}
 use Rattle.search.proofs.turn_of.Goals as goal
@@ -10,19 +9,17 @@ use Rattle.search.proofs.turn_of.Goals.{then-is_backward, else-is_backward}
 
 pub value_at-requires : goal.value_at-requires
 value_at-requires g c =
-    let t = g.T.Tally in
-    let m = ops_of t.none t.plus t.multiple t.below in
+    let m = g.T.Tally.ops in
     let es = c.args.edges.now in
     let k = c.loop-e.e-index in
     let q = back_block m c.args.l c.args.work.now es k c.loop-e-test.true (sym c.if-is_backward.ensures)
     c.requires.backs in
     let s = c.requires.small (edge_at es k).from q in
-    record { block = omega (arith, q, c.requires.room); low = c.requires.low; one = s.0; more = s.1 }
+    record { block = omega (arith, q, c.requires.room); low = c.requires.low; small = s }
 
 pub loop-e-preserved : goal.loop-e-preserved
 loop-e-preserved g c =
-    let t = g.T.Tally in
-    let m = ops_of t.none t.plus t.multiple t.below in
+    let m = g.T.Tally.ops in
     let s = c.args.work.now in
     let es = c.args.edges.now in
     let k = c.loop-e.e-index in
@@ -37,7 +34,6 @@ loop-e-preserved g c =
 
 pub returns : goal.returns
 returns g c =
-    let t = g.T.Tally in
-    let m = ops_of t.none t.plus t.multiple t.below in
+    let m = g.T.Tally.ops in
     sym (at_drop_all (λ es. turned m c.args.l c.args.work.now es c.loop-e.most) c.args.edges.now c.loop-e.e-index
     c.loop-e-test.false) ∙ c.loop-e.invariant

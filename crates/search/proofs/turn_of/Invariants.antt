@@ -1,10 +1,8 @@
 use Rattle.std.proofs.Common.{◌≡◌, drop}
-use Rattle.tally.specs.Laws.{ops_of}
 use Rattle.longest.specs.Search.{none_yet, turned}
 use Rattle.search.proofs.turn_of.Given as goal
 
 abbrev pub invariant-loop-e : goal.invariant-loop-e
 invariant-loop-e g l =
-    let t = g.T.Tally in
-    let m = ops_of t.none t.plus t.multiple t.below in
+    let m = g.T.Tally.ops in
     turned m l.l l.work (drop l.e-index l.edges) l.most ≡ turned m l.l l.work l.edges (none_yet m)
