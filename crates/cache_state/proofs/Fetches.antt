@@ -1,10 +1,10 @@
 -- Fetches one after the other.
-use Rattle.std.proofs.Common.{◌≡◌, ℕ, ◌+◌, ◌*◌, ◌<◌, ◌≤◌, min, true, ◌⊎◌, List, [], ◌∷◌, ◌++◌, map, take, sym, refl, ap, ◌∙◌, subst, ap₂, inl, inr, div-le_self, arith}
+use Rattle.std.proofs.Common.{◌≡◌, ℕ, zero, suc, ◌+◌, ◌*◌, ◌<◌, min, true, List, [], ◌∷◌, ◌++◌, map, take, sym, refl, ap, ◌∙◌, subst, ap₂, inl, inr, div-le_self, arith}
 use native.Mathlib.Nat.{min-eq_left}
-use Rattle.std.specs.List.{range_with_len}
+use Rattle.std.specs.List.{range_with_len, fold}
 use Rattle.std.proofs.lemmas.List.FromFn.{map-range_with_len_more, take-map-range_with_len, length-map-range_with_len}
 use Rattle.std.proofs.lemmas.List.{take_all}
-use Rattle.std.proofs.lemmas.Bool.{leb-true}
+use Rattle.std.proofs.lemmas.Bool.{cases_lt, leb-true}
 use Rattle.records.specs.declared.parts.Geometry.{Geometry}
 use Rattle.records.specs.declared.parts.Block.{Block}
 use Rattle.facts.specs.Kind.{Kind}
@@ -30,21 +30,31 @@ line_fits g b j line e p h =
     e ∙ min-eq_left (let f = leb-true (b.address + 4 * b.fetches) 16777216 p in
     let d = div-le_self (b.address + 4 * j) g.line in omega arith)
 
--- n is `count`, but no more than the block has fetches
-abbrev pub Capped : Block → ℕ → ℕ → Type 0
-Capped b count n = ((count < b.fetches) × (n ≡ count)) ⊎ ((b.fetches ≤ count) × (n ≡ b.fetches))
+-- two lists made from the same numbers
+map_same : (f h : ℕ → ℕ) (a n : ℕ) → ((j : ℕ) → j < a + n → f j ≡ h j) → map f (range_with_len a n) ≡ map h (range_with_len a n)
+map_same f h a zero e = refl
+map_same f h a (suc n) e = ap₂ (λ x xs. x ∷ xs) (e a (omega arith)) (map_same f h (a + 1) n (λ j l. e j (omega arith)))
 
-first_lines : (g : Geometry) (b : Block) (count n : ℕ) → Capped b count n → map (fetch_line g b) (range_with_len 0 n) ≡ take count (fetch_lines g b)
-first_lines g b count n (inl w) =
-    ap (λ m. map (fetch_line g b) (range_with_len 0 m)) w.1 ∙ sym (take-map-range_with_len (fetch_line g b) 0 b.fetches count (omega arith))
-first_lines g b count n (inr w) =
-    ap (λ m. map (fetch_line g b) (range_with_len 0 m)) w.1
-    ∙ sym (take_all count (fetch_lines g b) (let e = length-map-range_with_len (fetch_line g b) 0 b.fetches in omega arith))
+-- the first lines of a block, of which each fits
+pub first_lines : (g : Geometry) (b : Block) (count n : ℕ) → placed b ≡ true → n ≡ min count b.fetches
+    → map (λ j. min (fetch_line g b j) empty) (range_with_len 0 n) ≡ take count (fetch_lines g b)
+first_lines g b count n p e =
+    map_same (λ j. min (fetch_line g b j) empty) (fetch_line g b) 0 n (λ j l. line_fits g b j (min (fetch_line g b j) empty) refl p (omega arith))
+    ∙ elim (cases_lt count b.fetches) [
+      | inl l ↦ (let same : n ≡ count = omega arith in
+          ap (λ m. map (fetch_line g b) (range_with_len 0 m)) same ∙ sym (take-map-range_with_len (fetch_line g b) 0 b.fetches count (omega arith)))
+      | inr l ↦ (let same : n ≡ b.fetches = omega arith in
+          let long = length-map-range_with_len (fetch_line g b) 0 b.fetches in
+          ap (λ m. map (fetch_line g b) (range_with_len 0 m)) same ∙ sym (take_all count (fetch_lines g b) (omega arith)))
+    ]
 
--- after the last fetch asked for
-pub fetch_all_lem : {A : Type 0} (f : ℕ → A → A) (g : Geometry) (b : Block) (count n : ℕ) (x y : A) → Capped b count n
-    → y ≡ fetch_all f (map (fetch_line g b) (range_with_len 0 n)) x → y ≡ fetch_all f (take count (fetch_lines g b)) x
-fetch_all_lem f g b count n x y w e = e ∙ ap (λ ts. fetch_all f ts x) (first_lines g b count n w)
+pub all_lines : (g : Geometry) (b : Block) → take b.fetches (fetch_lines g b) ≡ fetch_lines g b
+all_lines g b = take_all b.fetches (fetch_lines g b) (let e = length-map-range_with_len (fetch_line g b) 0 b.fetches in omega arith)
+
+-- fetches one after the other are a fold
+pub fold-fetched : {A : Type 0} (f : ℕ → A → A) (ts : List ℕ) (x : A) → fold (λ y t. f t y) x ts ≡ fetch_all f ts x
+fold-fetched f [] x = refl
+fold-fetched f (t ∷ ts) x = fold-fetched f ts (f t x)
 
 -- fetches one after the other go through joins if each fetch does
 pub fetches_through : {K : Type 0} {k : Kind K} (fetched : ℕ → K → K) → ((t : ℕ) → Through k (fetched t)) → (ts : List ℕ) → Through k (fetch_all fetched ts)

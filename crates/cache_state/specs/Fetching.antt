@@ -3,8 +3,6 @@
 use Rattle.std.specs.Prelude.{◌≡◌, ℕ, Bool, ◌↔◌, length, take}
 use Rattle.records.specs.declared.parts.Geometry.{Geometry}
 use Rattle.records.specs.declared.parts.Block.{Block}
-use Rattle.records.specs.Contents.{Contents}
-use Rattle.task.specs.Graph.{block_at}
 use Rattle.facts.specs.Kind.{Kind}
 use Rattle.facts.specs.Laws.{Respects}
 use Rattle.cache_state.specs.Cache.{Cache, Resident, fetch_cache, fetch_all, fetch_line, fetch_lines}
@@ -23,7 +21,3 @@ pub record Fetching {K : Type 0} (g : Geometry) (k : Kind K) (fetched : ℕ → 
 -- Fetch j of a block is sure in state x: after the block's earlier fetches, x is sure of its line.
 abbrev pub sure_fetch : {K : Type 0} → Geometry → Kind K → (ℕ → K → K) → Block → ℕ → K → Bool
 sure_fetch g k fetched b j x = k.sure (fetch_all fetched (take j (fetch_lines g b)) x) (fetch_line g b j)
-
--- fetch j of a task's block b is sure in a state of the block's entry
-abbrev pub sure_at : {K : Type 0} → Kind K → (ℕ → K → K) → Contents → K → ℕ → ℕ → Bool
-sure_at k fetched c x b j = sure_fetch c.header.geometry k fetched (block_at c.blocks b) j x

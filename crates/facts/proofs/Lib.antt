@@ -6,3 +6,4 @@ pub mod Settled
 pub mod Rounds
 pub mod Exact
 pub mod Space
+pub mod Count

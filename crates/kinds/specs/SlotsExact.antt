@@ -1,10 +1,10 @@
 -- What the slot kind says of the cache: all that holds from every cache in which a walk may start.
-use Rattle.std.specs.Prelude.{◌≡◌, ℕ, ◌<◌, Bool, true, ◌↔◌, List, ◌∷◌, length, take}
+use Rattle.std.specs.Prelude.{◌≡◌, ℕ, ◌<◌, Bool, true, ◌↔◌, List, ◌∷◌, length}
 use Rattle.records.specs.Contents.{Contents}
 use Rattle.task.specs.Graph.{block_at, loop_at, Within}
 use Rattle.walks.specs.Walk.{Walk, rounds, all_loops}
 use Rattle.facts.specs.Settling.{state_at, task_states, first_states}
-use Rattle.cache_state.specs.Cache.{Cache, Resident, fetch_all, fetch_cache, fetch_line, fetch_lines, walk_cache}
+use Rattle.cache_state.specs.Cache.{Cache, Hits as HitsFrom}
 use Rattle.cache_state.specs.Fetching.{sure_fetch}
 use Rattle.slot_kind.specs.declared.SlotState.{SlotState}
 use Rattle.slot_kind.specs.Slots.{slot_kind, slots_fetched}
@@ -15,11 +15,7 @@ slots_sure_fetch c b j x = let g = c.header.geometry in sure_fetch g (slot_kind 
 
 -- fetch j of block b hits after the walk w, whatever cache the walk starts with
 abbrev pub Hits : Contents → List ℕ → ℕ → ℕ → Type 0
-Hits c w b j =
-    let g = c.header.geometry in
-    let block = block_at c.blocks b in
-    (start : Cache) → length start ≡ g.slots
-    → Resident g (fetch_all (fetch_cache g) (take j (fetch_lines g block)) (walk_cache g c.blocks w start)) (fetch_line g block j)
+Hits c w b j = (start : Cache) → length start ≡ c.header.geometry.slots → HitsFrom c start w b j
 
 -- it hits on every walk to the block
 abbrev pub HitsAlways : Contents → ℕ → ℕ → Type 0
@@ -30,7 +26,7 @@ abbrev pub SureIsHit : Contents → Type 0
 SureIsHit c =
     let k = slot_kind c.header.geometry in
     (b j : ℕ) → b < length c.blocks → j < (block_at c.blocks b).fetches
-    → (slots_sure_fetch c b j (state_at k (task_states k c).0 b) ≡ true) ↔ ((w : List ℕ) → Walk c.edges 0 w b → Hits c w b j)
+    → (slots_sure_fetch c b j (state_at k (task_states k c).0 b) ≡ true) ↔ HitsAlways c b j
 
 -- In a loop's first round it is sure exactly if it hits after every walk that stands there in such a round.
 abbrev pub FirstIsHit : Contents → Type 0

@@ -6,10 +6,11 @@ ghost use Rattle.last_line_kind.specs.Laws.{last_lawful, pass_through, last_ever
 ghost use Rattle.std.proofs.lemmas.Bool.{ltb-true};
 
 use cache_state::CacheState;
-use cache_state::lines::program_line;
+use cache_state::lines::fetch_lines;
 use facts::Facts;
 use records::parts::{Block, Geometry};
 
+// An enum of its own: of an `Option<Option<u32>>` no match would show which None is meant.
 #[derive(Clone, Copy)]
 pub enum LastLine {
     // No walk has come here yet.
@@ -66,13 +67,11 @@ impl Facts<Geometry> for LastLine {
         }
     }
 
-    // A loop of its own: `fetch_first` is made from `fetch` and this impl, so it cannot be called here.
     fn pass(&self, _number: usize, block: &Block, geometry: Geometry) -> LastLine {
-        let mut state = *self;
-        for fetch in 0..block.fetches {
-            state = state.fetch(program_line(block, fetch, geometry), geometry);
-        }
-        state
+        // Not `fetch_first`: it belongs to `CacheState`, which stands on this impl.
+        fetch_lines(*self, block, block.fetches, geometry, |state, line| {
+            state.fetch(line, geometry)
+        })
     }
 }
 

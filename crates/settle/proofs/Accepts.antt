@@ -13,15 +13,16 @@ use Rattle.walks.specs.Walk.{all_loops}
 use Rattle.facts.specs.Kind.{Kind}
 use Rattle.facts.specs.Space.{placed}
 use Rattle.facts.specs.Settling.{region_of, settled, entry_state}
-use Rattle.settle.specs.Outcome.{every, roomy, settleable, outcome, starts_below, entry_of}
+use Rattle.std.specs.List.{list_all}
+use Rattle.settle.specs.Outcome.{roomy, settleable, outcome, starts_below, entry_of}
 use Rattle.settle.proofs.Steps.{no_block, no_edge}
 
-pub every_from : {X : Type 0} (test : X → Bool) (d : X) (xs : List X) → ((i : ℕ) → i < length xs → test (get_or xs i d) ≡ true) → every test xs ≡ true
+pub every_from : {X : Type 0} (test : X → Bool) (d : X) (xs : List X) → ((i : ℕ) → i < length xs → test (get_or xs i d) ≡ true) → list_all test xs ≡ true
 every_from test d [] h = refl
-every_from test d (x ∷ xs) h = and_from (test x) (every test xs) (h 0 (omega arith)) (every_from test d xs (λ i l. h (suc i) (omega arith)))
+every_from test d (x ∷ xs) h = and_from (test x) (list_all test xs) (h 0 (omega arith)) (every_from test d xs (λ i l. h (suc i) (omega arith)))
 
 module _ (c : Contents) (format : InFormat c) (sound : Sound c) (room : ℕ) (long : length c.blocks ≤ room) where
-  task_placed : every placed c.blocks ≡ true
+  task_placed : list_all placed c.blocks ≡ true
   task_placed = every_from placed no_block c.blocks (λ b l. elim (cases_Bool (placed (block_at c.blocks b))) [
     | inl e ↦ e
     | inr e ↦ absurd (sound Address b (l, inr (leb-false ((block_at c.blocks b).address + 4 * (block_at c.blocks b).fetches) 16777216 e)))
@@ -29,9 +30,9 @@ module _ (c : Contents) (format : InFormat c) (sound : Sound c) (room : ℕ) (lo
 
   pub task_roomy : roomy c.blocks room ≡ true
   task_roomy =
-      and_from (leb (length c.blocks) 128) (leb (length c.blocks) room && every placed c.blocks)
+      and_from (leb (length c.blocks) 128) (leb (length c.blocks) room && list_all placed c.blocks)
       (le-leb (length c.blocks) 128 (ranges c format).few_blocks)
-      (and_from (leb (length c.blocks) room) (every placed c.blocks) (le-leb (length c.blocks) room long) task_placed)
+      (and_from (leb (length c.blocks) room) (list_all placed c.blocks) (le-leb (length c.blocks) room long) task_placed)
 
   loop_order : (i : ℕ) → i < length (all_loops c) → ((loop_at (all_loops c) i).header ≤ (loop_at (all_loops c) i).last) × ((loop_at (all_loops c) i).last < length c.blocks)
   loop_order zero l = let s = (ranges c format).some in (omega arith, omega arith)
@@ -50,7 +51,7 @@ module _ (c : Contents) (format : InFormat c) (sound : Sound c) (room : ℕ) (lo
       and_from (leb r.header r.last) (ltb r.last (length c.blocks) && roomy c.blocks room) (le-leb r.header r.last (loop_order i l).0)
       (and_from (ltb r.last (length c.blocks)) (roomy c.blocks room) (lt-ltb r.last (length c.blocks) (loop_order i l).1) task_roomy)
 
-  pub task_starts : every (starts_below (length c.blocks)) c.edges ≡ true
+  pub task_starts : list_all (starts_below (length c.blocks)) c.edges ≡ true
   task_starts = every_from (starts_below (length c.blocks)) no_edge c.edges (λ j l.
       let q = (All-get_or (EdgeRange (length c.blocks)) c.edges j no_edge l (ranges c format).edges).from in
       let s = (ranges c format).some in
@@ -72,8 +73,8 @@ module _ {K : Type 0} (k : Kind K) (taken : Bool) (takes : taken ≡ true) (c : 
   pub task_entry : entry_of k taken (region_of c.blocks c.edges (loop_at (all_loops c) i)) xs
       ≡ Some (entry_state k (region_of c.blocks c.edges (loop_at (all_loops c) i)) (take (length c.blocks) xs))
   task_entry =
-      let on : (taken && (roomy c.blocks (length xs) && every (starts_below (length c.blocks)) c.edges)) ≡ true =
-      and_from taken (roomy c.blocks (length xs) && every (starts_below (length c.blocks)) c.edges) takes
-      (and_from (roomy c.blocks (length xs)) (every (starts_below (length c.blocks)) c.edges)
+      let on : (taken && (roomy c.blocks (length xs) && list_all (starts_below (length c.blocks)) c.edges)) ≡ true =
+      and_from taken (roomy c.blocks (length xs) && list_all (starts_below (length c.blocks)) c.edges) takes
+      (and_from (roomy c.blocks (length xs)) (list_all (starts_below (length c.blocks)) c.edges)
       (task_roomy c format sound (length xs) long) (task_starts c format sound (length xs) long)) in
       rw (on, entry_of) refl

@@ -1,9 +1,9 @@
 -- The steps of the code against the definition of settling.
 use Rattle.std.proofs.Common.{◌≡◌, ℕ, zero, suc, ◌+◌, ◌-◌, ◌*◌, ◌<◌, ◌≤◌, Bool, true, false, not, ◌&&◌, eqb, ltb, leb, ◌≢◌, ◌⊎◌, List, [], ◌∷◌, ◌++◌, length, get_or, take, drop, set, replicate, Some, sym, refl, ap, ◌∙◌, subst, ap₂, inl, inr, le_of_suc-le-suc, not-suc-le-zero, mul-le-mul, arith}
-use Rattle.std.specs.List.{range_with_len, AllByRecursion}
+use Rattle.std.specs.List.{range_with_len, list_all, AllByRecursion}
 use Rattle.std.proofs.ByRecursion.{sum_by_le}
 use Rattle.std.proofs.lemmas.List.{at_drop_more, at_drop_all, get_or_read, get_or-set_same, get_or-set_other, length-take-le}
-use Rattle.std.proofs.lemmas.Bool.{cases_Bool, cases_eq, cases_lt, both_ways, not-true, not-false, and_parts, and_from, and_left, leb-true, ltb-true, eqb-true}
+use Rattle.std.proofs.lemmas.Bool.{cases_Bool, cases_eq, cases_lt, both_ways, not-true, not-false, and_parts, and_from, leb-true, ltb-true, eqb-true}
 use Rattle.records.specs.declared.parts.Block.{Block}
 use Rattle.records.specs.declared.parts.Edge.{Edge}
 use Rattle.task.specs.Graph.{block_at, edge_at}
@@ -12,7 +12,7 @@ use Rattle.facts.specs.Space.{placed}
 use Rattle.facts.specs.Settling.{Region, starts, predecessors, state_at, end_state, gathered, turn, turns, pass, unchanged, passes, settled}
 use Rattle.facts.specs.Laws.{Lawful}
 use Rattle.facts.proofs.Passes.{unchanged_from, rank_sum, passes_stop, passes_on, pass_falls}
-use Rattle.settle.specs.Outcome.{every, roomy, settleable, outcome}
+use Rattle.settle.specs.Outcome.{roomy, settleable, outcome}
 
 abbrev pub no_block : Block
 no_block = record { address = 0; fetches = 0; cycles = 0 }
@@ -20,20 +20,12 @@ no_block = record { address = 0; fetches = 0; cycles = 0 }
 abbrev pub no_edge : Edge
 no_edge = record { from = 0; to = 0 }
 
--- a test of every element, one element more
+-- a test that every element passes
 module _ {X : Type 0} (test : X → Bool) (d : X) where
-  pub every_at : (xs : List X) (i : ℕ) → every test xs ≡ true → i < length xs → test (get_or xs i d) ≡ true
+  pub every_at : (xs : List X) (i : ℕ) → list_all test xs ≡ true → i < length xs → test (get_or xs i d) ≡ true
   every_at [] i a l = absurd (not-suc-le-zero l)
-  every_at (x ∷ xs) zero a l = (and_parts (test x) (every test xs) a).0
-  every_at (x ∷ xs) (suc i) a l = every_at xs i (and_parts (test x) (every test xs) a).1 (le_of_suc-le-suc l)
-
-  pub every_more : (xs : List X) (i : ℕ) → i < length xs → test (get_or xs i d) ≡ true → every test (drop (i + 1) xs) ≡ every test (drop i xs)
-  every_more xs i l t =
-      let e : every test (drop i xs) ≡ (test (get_or xs i d) && every test (drop (i + 1) xs)) = at_drop_more (every test) xs i d l in
-      sym (e ∙ ap (λ u. u && every test (drop (i + 1) xs)) t)
-
-  pub every_not : (xs : List X) (i : ℕ) → i < length xs → test (get_or xs i d) ≡ false → every test (drop i xs) ≡ false
-  every_not xs i l t = at_drop_more (every test) xs i d l ∙ and_left (test (get_or xs i d)) (every test (drop (i + 1) xs)) t
+  every_at (x ∷ xs) zero a l = (and_parts (test x) (list_all test xs) a).0
+  every_at (x ∷ xs) (suc i) a l = every_at xs i (and_parts (test x) (list_all test xs) a).1 (le_of_suc-le-suc l)
 
 -- the state of block p is read, passed through it and joined in
 pub added : {K : Type 0} (k : Kind K) (bs : List Block) (xs : List K) (p : ℕ) (state x end sum : K) → p < length xs → x ≡ get_or xs p x
@@ -213,11 +205,11 @@ pub accepted : (r : Region) (room : ℕ) → settleable r room ≡ true → Acce
 accepted r room e =
     let a = and_parts (leb r.range.header r.range.last) (ltb r.range.last (length r.blocks) && roomy r.blocks room) e in
     let b = and_parts (ltb r.range.last (length r.blocks)) (roomy r.blocks room) a.1 in
-    let c = and_parts (leb (length r.blocks) 128) (leb (length r.blocks) room && every placed r.blocks) b.1 in
+    let c = and_parts (leb (length r.blocks) 128) (leb (length r.blocks) room && list_all placed r.blocks) b.1 in
     record {
       some = leb-true r.range.header r.range.last a.0;
       fits = ltb-true r.range.last (length r.blocks) b.0;
-      room = leb-true (length r.blocks) room (and_parts (leb (length r.blocks) room) (every placed r.blocks) c.1).0;
+      room = leb-true (length r.blocks) room (and_parts (leb (length r.blocks) room) (list_all placed r.blocks) c.1).0;
     }
 
 pub outcome_accepted : {K : Type 0} (k : Kind K) (taken : Bool) (r : Region) (entry : K) (xs ys : List K) (n : ℕ) → taken ≡ true → settleable r (length xs) ≡ true

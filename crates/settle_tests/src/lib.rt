@@ -7,10 +7,12 @@ mod tests {
     use last_line_kind::LastLine;
     use load::load;
     use passed_kind::PassedBlocks;
-    use records::parts::{Geometry, Loop};
+    use records::parts::Geometry;
+    use settle::region::Region;
     use settle::settle;
     use slot_kind::SlotState;
     use std::test::Fail;
+    use walks::loops::task_loop;
 
     // Three blocks, the second a loop of its own.
     const SINGLE_LOOP: &[u8] =
@@ -35,25 +37,16 @@ mod tests {
         let Ok(task) = load(rt.alloc(), text) else {
             return Err(Fail::new("refused"));
         };
-        let blocks = task.record.blocks.as_slice();
-        let range = Loop {
-            header: 0,
-            last: blocks.len().saturating_sub(1),
-            limit: 1,
+        let region = Region {
+            blocks: &task.record.blocks,
+            edges: &task.record.edges,
+            range: task_loop(&task),
         };
-        let mut states = Vec::new(rt.alloc());
-        for _ in blocks {
-            states.push(K::nothing(geometry))?;
-        }
-        let passes = settle(
-            &mut states,
-            blocks,
-            task.record.edges.as_slice(),
-            range,
-            K::open(geometry),
-            geometry,
-        )
-        .ok_or("not settled")?;
+        let nothing = K::nothing(geometry);
+        let mut states = vec![in rt.alloc(); nothing; task.record.blocks.len()]?;
+        let passes = settle(&mut states, &region, K::open(geometry), geometry).ok_or(
+            "not settled",
+        )?;
         let state = states.get(at).copied().ok_or("no such block")?;
         Ok((passes, state.sure(thing, geometry)))
     }

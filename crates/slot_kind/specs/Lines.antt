@@ -5,6 +5,8 @@ use Rattle.std.proofs.lemmas.List.Edits.{fill_by_more}
 use Rattle.std.proofs.lemmas.List.{ext_get_or, get_or_default}
 use Rattle.std.proofs.lemmas.Bool.{cases_eq}
 use Rattle.std.proofs.lemmas.Bool.Decides.{nat_tests}
+use Rattle.std.specs.List.{range_with_len, filter}
+use Rattle.facts.proofs.Count.{counted_more}
 use Rattle.cache_state.specs.Cache.{empty}
 use Rattle.slot_kind.specs.Slots.{line_in, agreed, common_lines, stored_line, counted, known_slots}
 
@@ -94,6 +96,15 @@ pub known_more : (a : List ℕ) (i k r : ℕ) → k ≡ known_slots a i → ((li
     → r ≡ known_slots a (i + 1)
 known_more a i k r e (inl w) = rw add-one (elim (counts (line_in a i)) [ inl u ↦ absurd (w.0 u.0) | inr u ↦ omega arith ])
 known_more a i k r e (inr w) = rw add-one (elim (counts (line_in a i)) [ inl u ↦ omega arith | inr u ↦ absurd (u.0 w.0) ])
+
+counts_one : (t : ℕ) → cond (not (t == empty)) 1 0 ≡ counted t
+counts_one t = grind (arith, nat_tests)
+
+-- the known slots, counted one by one
+pub known_count : (a : List ℕ) (n : ℕ) → length (filter (λ i. not (line_in a i == empty)) (range_with_len 0 n)) ≡ known_slots a n
+known_count a zero = refl
+known_count a (suc n) =
+    let m = counted_more (λ i. not (line_in a i == empty)) n in let r = known_count a n in let k = counts_one (line_in a n) in omega arith
 
 pub known_same : (a b : List ℕ) (n : ℕ) → ((i : ℕ) → i < n → line_in a i ≡ line_in b i) → known_slots a n ≡ known_slots b n
 known_same a b zero h = refl

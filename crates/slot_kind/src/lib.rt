@@ -6,44 +6,39 @@ ghost use Rattle.slot_kind.specs.Slots.{slot_kind, slots_taken, slots_fetched, l
 ghost use Rattle.slot_kind.specs.Laws.{slots_few, slots_lawful, slots_distributing, slots_everywhere, slots_fetching, fetch_through};
 
 use cache_state::CacheState;
-use cache_state::lines::{EMPTY, program_line, slot_of};
+use cache_state::lines::{EMPTY, fetch_lines, slot_of};
 use facts::Facts;
 use records::parts::{Block, Geometry};
 
 #[derive(Clone, Copy)]
-pub enum SlotState {
-    // No walk has come here yet.
-    Nothing,
-    // The line known to be in each slot, or EMPTY where none is known.
-    Known([u32; 64]),
+pub struct SlotState {
+    // The line known to be in each slot, or EMPTY where none is known. None where no walk has come yet. 64 slots, as
+    // a state is `Copy` and lent, and EMPTY in them, so that it compares with the cache's own slots.
+    pub lines: Option<[u32; 64]>,
 }
 
 // The line known to be in a slot.
 fn line_in(lines: &[u32; 64], slot: u32) -> u32
     ensures { result ≡ line_in lines.now slot }
 {
-    if slot < 64 {
-        lines[slot as usize]
-    } else {
-        EMPTY
-    }
+    lines.get(slot as usize).copied().unwrap_or(EMPTY)
 }
 
 // The lines after this one was fetched into a slot.
-fn store(lines: &[u32; 64], slot: u32, line: u32) -> [u32; 64]
-    ensures { slot < 64 → result ≡ stored_line lines.now slot line }
+fn store(mut lines: [u32; 64], slot: u32, line: u32) -> [u32; 64]
+    ensures { slot < 64 → result ≡ stored_line lines slot line }
 {
-    let mut stored = *lines;
     if slot < 64 {
-        stored[slot as usize] = line;
+        lines[slot as usize] = line;
     }
-    stored
+    lines
 }
 
 // What both know of each slot.
 fn common(a: &[u32; 64], b: &[u32; 64]) -> [u32; 64]
     ensures { result ≡ common_lines a.now b.now }
 {
+    // A loop by index: of `array::from_fn` the proof that its closure gives this at each of 64 slots does not close.
     let mut lines = [EMPTY; 64];
     for slot in 0..64 {
         lines[slot] = if a[slot] == b[slot] { a[slot] } else { EMPTY };
@@ -55,13 +50,10 @@ fn common(a: &[u32; 64], b: &[u32; 64]) -> [u32; 64]
 fn known_slots(lines: &[u32; 64], slots: u32) -> u32
     ensures { result ≡ known_slots lines.now slots }
 {
-    let mut known = 0;
-    for slot in 0..slots {
-        if line_in(lines, slot) != EMPTY {
-            known += 1;
-        }
-    }
-    known
+    // By number, as `line_in` of the specification counts them: past the list's end a slot holds no line.
+    (0..slots)
+        .filter(|slot| line_in(lines, *slot) != EMPTY)
+        .count() as u32
 }
 
 impl Facts<Geometry> for SlotState {
@@ -74,49 +66,47 @@ impl Facts<Geometry> for SlotState {
     ghost distributing = { λ g e. slots_distributing g (slots_few g e).0 };
 
     fn takes(geometry: Geometry) -> bool {
-        1 <= geometry.slots && geometry.slots <= 64
+        (1..=64).contains(&geometry.slots)
     }
 
     fn nothing(_geometry: Geometry) -> SlotState {
-        Self::Nothing
+        SlotState { lines: None }
     }
 
     fn open(_geometry: Geometry) -> SlotState {
-        Self::Known([EMPTY; 64])
+        SlotState {
+            lines: Some([EMPTY; 64]),
+        }
     }
 
     fn join(&self, other: &SlotState, _geometry: Geometry) -> SlotState {
-        match (self, other) {
-            (SlotState::Nothing, _) => *other,
-            (SlotState::Known(_), SlotState::Nothing) => *self,
-            (SlotState::Known(a), SlotState::Known(b)) => SlotState::Known(common(a, b)),
+        match (&self.lines, &other.lines) {
+            (None, _) => *other,
+            (Some(_), None) => *self,
+            (Some(a), Some(b)) => SlotState {
+                lines: Some(common(a, b)),
+            },
         }
     }
 
     fn sure(&self, line: u32, geometry: Geometry) -> bool {
-        match self {
-            SlotState::Nothing => true,
-            SlotState::Known(lines) => {
-                let known = line_in(lines, slot_of(line, geometry));
-                known == line && line != EMPTY
-            }
-        }
+        self.lines.as_ref().is_none_or(|lines| line_in(lines, slot_of(line, geometry)) == line
+            && line != EMPTY)
     }
 
     fn rank(&self, geometry: Geometry) -> u32 {
-        match self {
-            SlotState::Nothing => geometry.slots.saturating_add(1),
-            SlotState::Known(lines) => known_slots(lines, geometry.slots),
-        }
+        self.lines
+            .as_ref()
+            .map_or(geometry.slots.saturating_add(1), |lines| {
+                known_slots(lines, geometry.slots)
+            })
     }
 
-    // A loop of its own: `fetch_first` is made from `fetch` and this impl, so it cannot be called here.
     fn pass(&self, _number: usize, block: &Block, geometry: Geometry) -> SlotState {
-        let mut state = *self;
-        for fetch in 0..block.fetches {
-            state = state.fetch(program_line(block, fetch, geometry), geometry);
-        }
-        state
+        // Not `fetch_first`: it belongs to `CacheState`, which stands on this impl.
+        fetch_lines(*self, block, block.fetches, geometry, |state, line| {
+            state.fetch(line, geometry)
+        })
     }
 }
 
@@ -130,11 +120,14 @@ impl CacheState for SlotState {
     ghost spreading = { λ g t e. (fetch_through g (slots_few g e).0 t).distributes };
 
     fn fetch(&self, line: u32, geometry: Geometry) -> SlotState {
-        match self {
-            SlotState::Nothing => SlotState::Nothing,
-            SlotState::Known(lines) => {
+        // A match: of `map` the proof that its closure stores the line does not close.
+        match self.lines {
+            None => *self,
+            Some(lines) => {
                 let slot = slot_of(line, geometry);
-                SlotState::Known(store(lines, slot, line))
+                SlotState {
+                    lines: Some(store(lines, slot, line)),
+                }
             }
         }
     }

@@ -1,16 +1,13 @@
-use Rattle.std.proofs.Common.{◌≡◌, ◌<◌, ◌≤◌, [], ◌∷◌, ◌++◌, length, set, replicate, sym, ap, ◌∙◌, arith}
-use Rattle.std.proofs.lemmas.List.{take_more_set, take_all, replicate_more}
+use Rattle.std.proofs.Common.{◌≡◌, [], ◌∷◌, ◌++◌, length, set, replicate, sym, refl, ap, ap₂, ◌∙◌, rules, length-append}
+use Rattle.std.proofs.lemmas.List.{replicate_more}
+use Rattle.std.proofs.lemmas.Fn.{chained_keeps}
 use Rattle.settle.proofs.begin.Goals as goal
-
-pub loop-state-preserved : goal.loop-state-preserved
-loop-state-preserved g c =
-    let l : c.loop-state.state-index < length c.loop-state.states = omega arith in
-    take_more_set c.loop-state.states c.loop-state.state-index c.args.nothing l
-    ∙ ap (λ xs. xs ++ c.args.nothing ∷ []) c.loop-state.invariant ∙ replicate_more c.loop-state.state-index c.args.nothing
 
 pub returns : goal.returns
 returns g c =
-    let n : c.loop-state.state-index ≡ length c.args.states.now = omega arith in
-    let l : length c.loop-state.states ≤ c.loop-state.state-index = omega arith in
-    ap (λ xs. set xs c.args.header c.args.entry)
-    (sym (take_all c.loop-state.state-index c.loop-state.states l) ∙ c.loop-state.invariant ∙ ap (λ m. replicate m c.args.nothing) n)
+    let filled = chained_keeps _ (λ xs f. (xs ≡ replicate (length xs) c.args.nothing) × (f.0.now ≡ c.args.nothing)) (λ xs q x v j s.
+    let e : (x ≡ q.0.now) × (v.0.now ≡ q.0.now) = search rules in (
+      ap₂ (λ ys y. ys ++ y ∷ []) j.0 (e.0 ∙ j.1) ∙ replicate_more (length xs) c.args.nothing ∙ ap (λ n. replicate n c.args.nothing) (sym (length-append xs (x ∷ []))),
+      e.1 ∙ j.1,
+    )) c.fill_with.new.self _ _ (refl, refl) c.fill_with.ensures.ran.1 in
+    ap (λ xs. set xs c.args.header c.args.entry) (filled.0 ∙ ap (λ n. replicate n c.args.nothing) c.fill_with.ensures.len)

@@ -11,5 +11,5 @@ loop-b-preserved g c =
 
 pub returns : goal.returns
 returns g c =
-    let end : c.loop-b.b ≡ suc c.args.range.last = omega arith in
+    let end : c.loop-b.b ≡ suc c.args.region.now.range.last = omega arith in
     record { after = sofar_after c.loop-b.invariant end; changed = sofar_changed c.loop-b.changed c.loop-b.invariant (omega arith) }

@@ -1,16 +1,14 @@
-use Rattle.std.proofs.Common.{◌+◌, ◌≤◌, sym, ◌∙◌, inl, inr, arith}
-use Rattle.slot_kind.specs.Lines.{known_more}
+use Rattle.std.proofs.Common.{not, eqb, ◌∙◌, rules, tests, arith}
+use Rattle.std.proofs.lemmas.Iterator.{YieldsList-from_range}
+use Rattle.std.proofs.lemmas.Iterator.Consumers.{count_from_yields_List, YieldsList-from_filter}
+use Rattle.cache_state.specs.Cache.{empty}
+use Rattle.slot_kind.specs.Slots.{line_in}
+use Rattle.slot_kind.specs.Lines.{known_count}
 use Rattle.slot_kind.proofs.known_slots.Goals as goal
-use Rattle.slot_kind.proofs.known_slots.Goals.{then-line_in, else-line_in}
 
-pub loop-slot-preserved : goal.loop-slot-preserved
-loop-slot-preserved c =
-    let few : c.if-line_in.known ≤ c.loop-slot.slot + 1 =
-    elim c.if-line_in.branch [ then-line_in w ↦ omega (arith, w.known-is) | else-line_in w ↦ omega (arith, w.known-is) ] in (
-      known_more c.args.lines.now c.loop-slot.slot c.loop-slot.known c.if-line_in.known c.loop-slot.invariant.0
-          (elim c.if-line_in.branch [
-            | then-line_in w ↦ inl (λ e. w.if-line_in.true (c.line_in.ensures ∙ e), w.known-is)
-            | else-line_in w ↦ inr (sym c.line_in.ensures ∙ w.if-line_in.false, w.known-is)
-          ]),
-      few,
-    )
+pub returns : goal.returns
+returns c =
+    count_from_yields_List c.filter.result c.count.result c.count.ensures.ran
+    (YieldsList-from_filter _ (λ i. not (eqb (line_in c.args.lines.now i) empty)) (YieldsList-from_range 0 c.args.slots c.args.slots (cc) (omega arith))
+    c.filter.ensures.closure (λ x b q k. search (rules, tests)))
+    ∙ known_count c.args.lines.now c.args.slots
