@@ -1,6 +1,7 @@
 -- The tests of the categories say what the categories mean.
 use Rattle.std.proofs.Common.{◌≡◌, ℕ, ◌<◌, Bool, true, false, not, ◌&&◌, ◌||◌, eqb, ◌↔◌, List, [], ◌∷◌, length, take, sym, refl, ap, ◌∙◌, subst, inl, inr, arith}
 use Rattle.std.proofs.lemmas.Bool.{false≢true, cases_eq, eqb-true, eqb-false, eq-eqb, ne_eqb, and_parts, and_from, or_cases, or_left, or_right, not-true, not_from_false}
+use Rattle.std.specs.List.{list_all}
 use Rattle.records.specs.declared.parts.Geometry.{Geometry}
 use Rattle.records.specs.declared.parts.Loop.{Loop}
 use Rattle.records.specs.Contents.{Contents}
@@ -15,7 +16,7 @@ use Rattle.cache_state.specs.Cache.{slot_of, fetch_all}
 use Rattle.run.specs.Run.{lines_of}
 use Rattle.categories.specs.declared.category.Category.{Category}
 use Rattle.categories.specs.declared.category.Category.TheVariants.{AlwaysHit, FirstMiss, FirstHit, AlwaysMiss}
-use Rattle.categories.specs.Category.{fetches_of, line_of, all_pass, apart, alone, leads_back, gated, passed_by, first_fitting, sure_fetch, sure_always, sure_first, category_of}
+use Rattle.categories.specs.Category.{fetches_of, line_of, apart, alone, leads_back, gated, passed_by, first_fitting, sure_fetch, sure_always, sure_first, category_of}
 use Rattle.categories.specs.Meaning.{PassedExactly, Passing, order, First, Fitting, Means}
 use Rattle.categories.proofs.Grounds.{Grounds}
 use Rattle.categories.proofs.Lists.{all-at, all_from, among_blocks, blocks_among, among_lines, lines_among, among_starts, starts_among}
@@ -45,8 +46,8 @@ module _ (c : Contents) (l : Loop) (t : ℕ) where
   alone_exact = (
     λ e d h m few. apart_true c.header.geometry t (line_of c d h)
         (all-at (apart c.header.geometry t) (lines_of c d) (line_of c d h)
-        (all-at (λ b. all_pass (apart c.header.geometry t) (lines_of c b)) (blocks_of l) d e (among_blocks l d m)) (among_lines c d h few)),
-    λ f. all_from (λ b. all_pass (apart c.header.geometry t) (lines_of c b)) (blocks_of l)
+        (all-at (λ b. list_all (apart c.header.geometry t) (lines_of c b)) (blocks_of l) d e (among_blocks l d m)) (among_lines c d h few)),
+    λ f. all_from (λ b. list_all (apart c.header.geometry t) (lines_of c b)) (blocks_of l)
         (λ b m. all_from (apart c.header.geometry t) (lines_of c b)
         (λ u q. (let r = lines_among c b u q in
         true_apart c.header.geometry t u

@@ -8,12 +8,12 @@ use Rattle.records.proofs.Ranges.{ranges}
 use Rattle.task.specs.Graph.{loop_at, Within}
 use Rattle.walks.specs.Walk.{Walk, all_loops, Among}
 use Rattle.facts.specs.Kind.{Kind}
-use Rattle.cache_state.specs.Cache.{Cache, Resident, fetch_cache, fetch_all, walk_cache}
+use Rattle.cache_state.specs.Cache.{Hits, Cache, Resident, fetch_cache, fetch_all, walk_cache}
 use Rattle.run.specs.Run.{lines_of}
 use Rattle.categories.specs.declared.category.Category.{Category}
 use Rattle.categories.specs.declared.category.Category.TheVariants.{AlwaysHit, FirstMiss, FirstHit, AlwaysMiss}
 use Rattle.categories.specs.Category.{fetches_of, line_of, marks_of}
-use Rattle.categories.specs.Meaning.{Again, Fitting, Keeps, Hits, Kept, KeptAlways}
+use Rattle.categories.specs.Meaning.{Again, Fitting, Keeps, Kept, KeptAlways}
 use Rattle.categories.proofs.Grounds.{Grounds}
 use Rattle.categories.proofs.Lists.{among_lines}
 use Rattle.categories.proofs.Stays.{first_in_first_round}

@@ -1,6 +1,6 @@
 -- Numbers among those of a list.
 use Rattle.std.proofs.Common.{◌≡◌, ℕ, zero, suc, ◌+◌, ◌-◌, ◌<◌, ◌≤◌, Bool, true, false, ◌⊎◌, List, [], ◌∷◌, ◌++◌, map, length, sym, refl, ap, ◌∙◌, subst, inl, inr, arith}
-use Rattle.std.specs.List.{range_with_len}
+use Rattle.std.specs.List.{range_with_len, list_all}
 use Rattle.std.proofs.lemmas.Bool.{cases_Bool, cases_eq, and_parts, and_from}
 use Rattle.records.specs.declared.parts.Loop.{Loop}
 use Rattle.records.specs.declared.parts.Edge.{Edge}
@@ -10,17 +10,17 @@ use Rattle.walks.specs.Walk.{Among}
 use Rattle.facts.specs.Settling.{starts, blocks_of}
 use Rattle.cache_state.specs.Cache.{fetch_line}
 use Rattle.run.specs.Run.{lines_of}
-use Rattle.categories.specs.Category.{fetches_of, line_of, all_pass}
+use Rattle.categories.specs.Category.{fetches_of, line_of}
 use Rattle.categories.specs.Costs.{passing}
 
-pub all-at : (test : ℕ → Bool) (xs : List ℕ) (x : ℕ) → all_pass test xs ≡ true → Among x xs → test x ≡ true
+pub all-at : (test : ℕ → Bool) (xs : List ℕ) (x : ℕ) → list_all test xs ≡ true → Among x xs → test x ≡ true
 all-at test [] x e m = absurd m
-all-at test (y ∷ xs) x e (inl q) = ap test q ∙ (and_parts (test y) (all_pass test xs) e).0
-all-at test (y ∷ xs) x e (inr m) = all-at test xs x (and_parts (test y) (all_pass test xs) e).1 m
+all-at test (y ∷ xs) x e (inl q) = ap test q ∙ (and_parts (test y) (list_all test xs) e).0
+all-at test (y ∷ xs) x e (inr m) = all-at test xs x (and_parts (test y) (list_all test xs) e).1 m
 
-pub all_from : (test : ℕ → Bool) (xs : List ℕ) → ((x : ℕ) → Among x xs → test x ≡ true) → all_pass test xs ≡ true
+pub all_from : (test : ℕ → Bool) (xs : List ℕ) → ((x : ℕ) → Among x xs → test x ≡ true) → list_all test xs ≡ true
 all_from test [] h = refl
-all_from test (y ∷ xs) h = and_from (test y) (all_pass test xs) (h y (inl refl)) (all_from test xs (λ x m. h x (inr m)))
+all_from test (y ∷ xs) h = and_from (test y) (list_all test xs) (h y (inl refl)) (all_from test xs (λ x m. h x (inr m)))
 
 pub among_left : (x : ℕ) (xs ys : List ℕ) → Among x xs → Among x (xs ++ ys)
 among_left x [] ys m = absurd m

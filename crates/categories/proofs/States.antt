@@ -8,12 +8,11 @@ use Rattle.facts.specs.Kind.{Kind}
 use Rattle.facts.specs.Laws.{Lawful, Distributes, Through}
 use Rattle.facts.specs.Meaning.{walk_state}
 use Rattle.facts.proofs.Order.{through_none, through_then}
-use Rattle.cache_state.specs.Cache.{Cache, slot_of, fetch_lines, fetch_cache, fetch_all, walk_cache}
+use Rattle.cache_state.specs.Cache.{Hits, Cache, slot_of, fetch_lines, fetch_cache, fetch_all, walk_cache}
 use Rattle.cache_state.specs.Fetching.{Fetching}
 use Rattle.run.specs.Run.{lines_of}
 use Rattle.run.proofs.Along.{length-fetches}
 use Rattle.categories.specs.Category.{line_of, sure_fetch}
-use Rattle.categories.specs.Meaning.{Hits}
 
 pub length-walk-cache : (g : Geometry) (bs : List Block) (w : List ℕ) (cache : Cache) → length (walk_cache g bs w cache) ≡ length cache
 length-walk-cache g bs [] cache = refl

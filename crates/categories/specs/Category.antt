@@ -1,5 +1,6 @@
 -- The category of a fetch at a loop around its block.
 use Rattle.std.specs.Prelude.{ℕ, zero, suc, Bool, true, false, not, ◌&&◌, ◌||◌, List, [], ◌∷◌, length, take, ◌==◌}
+use Rattle.std.specs.List.{list_all}
 use Rattle.records.specs.declared.parts.Geometry.{Geometry}
 use Rattle.records.specs.declared.parts.Loop.{Loop}
 use Rattle.records.specs.declared.parts.Edge.{Edge}
@@ -20,18 +21,13 @@ fetches_of c b = (block_at c.blocks b).fetches
 abbrev pub line_of : Contents → ℕ → ℕ → ℕ
 line_of c b j = fetch_line c.header.geometry (block_at c.blocks b) j
 
--- the test passes each of these
-abbrev pub all_pass : (ℕ → Bool) → List ℕ → Bool
-all_pass test [] = true
-all_pass test (x ∷ xs) = test x && all_pass test xs
-
 -- lines t and u have different slots, or are one line
 abbrev pub apart : Geometry → ℕ → ℕ → Bool
 apart g t u = not (slot_of g u == slot_of g t) || u == t
 
 -- no fetch of a block of the loop has another line of t's slot
 abbrev pub alone : Contents → Loop → ℕ → Bool
-alone c l t = all_pass (λ b. all_pass (apart c.header.geometry t) (lines_of c b)) (blocks_of l)
+alone c l t = list_all (λ b. list_all (apart c.header.geometry t) (lines_of c b)) (blocks_of l)
 
 -- the edge leads from inside the loop back to its header
 abbrev pub leads_back : Loop → Edge → Bool
@@ -40,7 +36,7 @@ leads_back l e = e.to == l.header && within l e.from
 -- Every walk to a block with an edge back to the loop's header passes block b, its last block
 -- counted; `passed x b` tells whether every walk to block x has passed b before.
 abbrev pub gated : (ℕ → ℕ → Bool) → Contents → Loop → ℕ → Bool
-gated passed c l b = all_pass (λ x. (b == x) || passed x b) (starts (leads_back l) c.edges)
+gated passed c l b = list_all (λ x. (b == x) || passed x b) (starts (leads_back l) c.edges)
 
 -- such a test by a kind of facts about the blocks passed
 abbrev pub passed_by : {P : Type 0} → Kind P → Contents → ℕ → ℕ → Bool

@@ -1,5 +1,5 @@
 -- What categories mean, that walks keep them, and that the charge covers the plain run.
-use Rattle.std.specs.Prelude.{◌≡◌, ℕ, ◌<◌, ◌≤◌, Bool, true, ◌⊎◌, ◌↔◌, List, [], ◌∷◌, length, take, ◌≢◌, slice_index}
+use Rattle.std.specs.Prelude.{◌≡◌, ℕ, ◌<◌, ◌≤◌, Bool, true, ◌⊎◌, ◌↔◌, List, [], ◌∷◌, length, ◌≢◌, slice_index}
 use Rattle.records.specs.declared.parts.Geometry.{Geometry}
 use Rattle.records.specs.declared.parts.Loop.{Loop}
 use Rattle.records.specs.Contents.{Contents}
@@ -9,9 +9,9 @@ use Rattle.task.specs.Laws.{Laws}
 use Rattle.walks.specs.Walk.{Walk, rounds, all_loops, Among}
 use Rattle.facts.specs.Kind.{Kind}
 use Rattle.facts.specs.Meaning.{walk_state, Exact}
-use Rattle.cache_state.specs.Cache.{Cache, Resident, slot_of, fetch_cache, fetch_all, walk_cache}
+use Rattle.cache_state.specs.Cache.{Cache, Hits, slot_of}
 use Rattle.longest.specs.Charge.{charge}
-use Rattle.run.specs.Run.{lines_of, run_along}
+use Rattle.run.specs.Run.{run_along}
 use Rattle.categories.specs.declared.category.Category.{Category}
 use Rattle.categories.specs.declared.category.Category.TheVariants.{AlwaysHit, FirstMiss, FirstHit, AlwaysMiss}
 use Rattle.categories.specs.Category.{fetches_of, line_of, passed_by, sure_fetch, category_of, Marks, marks_of}
@@ -75,13 +75,6 @@ module _ {K : Type 0} (k : Kind K) (fetched : ℕ → K → K) (c : Contents) wh
 abbrev pub Again : Loop → ℕ → List ℕ → Type 0
 Again l b [] = ⊥
 Again l b (p ∷ w) = Within l p × ((b ≡ p) ⊎ Again l b w)
-
--- fetch j of block b, entered after the blocks w from this starting cache, hits
-abbrev pub Hits : Contents → Cache → List ℕ → ℕ → ℕ → Type 0
-Hits c cache w b j =
-    Resident c.header.geometry
-    (fetch_all (fetch_cache c.header.geometry) (take j (lines_of c b)) (walk_cache c.header.geometry c.blocks w cache))
-    (line_of c b j)
 
 -- what a category claims of a fetch, made again in the stay or the first time
 abbrev pub Keeps : Category → Type 0 → Type 0 → Type 0

@@ -2,7 +2,7 @@
 ghost use Rattle.std.specs.Prelude.{◌≡◌};
 ghost use Rattle.categories.specs.Letters.{letters_of};
 
-#[derive(Clone, Copy)]
+#[derive(Clone, Copy, PartialEq, Eq)]
 pub enum Category {
     // It never misses.
     AlwaysHit,
@@ -19,6 +19,7 @@ impl Category {
     pub fn letters(&self) -> &'static str
         ensures { result.now ≡ letters_of self.now }
     {
+        // Not Display: a report is laid on byte by byte, without formatting.
         match self {
             Category::AlwaysHit => "h",
             Category::FirstMiss => "fm",

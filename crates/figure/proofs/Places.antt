@@ -3,7 +3,7 @@ use Rattle.std.proofs.Common.{◌≡◌, ℕ, zero, suc, ◌+◌, ◌-◌, ◌*�
 use native.Mathlib.Nat.{min-eq_left}
 use Rattle.std.specs.List.{range_with_len}
 use Rattle.std.proofs.ByRecursion.{All-get_or}
-use Rattle.std.proofs.lemmas.List.{at_drop_more, length-take-le, length-drop, get_or-take, get_or-drop, take_rest, append-nil, append_assoc}
+use Rattle.std.proofs.lemmas.List.{at_drop_more, length-take-le, length-drop, get_or-take, get_or-drop, append-nil, append_assoc}
 use Rattle.std.proofs.lemmas.Bool.{cases_lt}
 use Rattle.records.specs.declared.parts.Block.{Block}
 use Rattle.records.specs.declared.parts.Loop.{Loop}
@@ -23,9 +23,9 @@ use Rattle.categories.specs.Category.{fetches_of, line_of, Marks}
 use Rattle.categories.specs.Costs.{passing, added, distinct, charged_fetch, charged_lines, charged_at, paying}
 use Rattle.categories.proofs.Loops.{true_within}
 use Rattle.marks.specs.Table.{row_of, level_of, mark_at}
-use Rattle.figure.specs.Row.{pays, level_at, charged_row, paying_rows}
+use Rattle.figure.specs.Row.{level_at, charged_row, paying_rows}
 use Rattle.figure.proofs.Levels.{above_from, above_in, innermost_level, charged_fetch_lem}
-use Rattle.figure.proofs.Lists.{counting_more, passing_same, distinct_append, lines_more_yes, lines_more_no}
+use Rattle.figure.proofs.Lists.{counting_more, count_passing, passing_same, distinct_append, lines_more_yes, lines_more_no}
 use Rattle.figure.proofs.Steps.{fetches_split}
 
 -- a line of a block in the address space is no larger than an address
@@ -59,22 +59,20 @@ module _ (c : Contents) (b : ℕ) (inside : b < length c.blocks) where
       let next = at_drop_more total_fetches c.blocks b (record { address = 0; fetches = 0; cycles = 0 }) inside in
       omega arith
 
-  -- the same of blocks that are read
-  pub rows_end : (bs : List Block) (n : ℕ) → bs ≡ c.blocks → n ≡ total_fetches (take b bs) → n + (block_at bs b).fetches ≤ total_fetches c.blocks
-  rows_end bs n same e =
-      let r = rows_room in
-      let z = ap (λ xs. total_fetches (take b xs)) same in
-      let f = ap (λ xs. (block_at xs b).fetches) same in
-      omega arith
+  -- the same of a block that is read
+  module _ (x : Block) (n : ℕ) (x-is : x ≡ block_at c.blocks b) (n-is : n ≡ total_fetches (take b c.blocks)) where
+    pub rows_end : n + x.fetches ≤ total_fetches c.blocks
+    rows_end =
+        let r = rows_room in
+        let f = ap (λ (y : Block). y.fetches) x-is in
+        omega arith
 
-  pub rows_are : {X : Type 0} (table : List X) (bs : List Block) (n : ℕ) → bs ≡ c.blocks → n ≡ total_fetches (take b bs)
-      → take ((n + (block_at bs b).fetches) - n) (drop n table) ≡ take (fetches_of c b) (drop (row_of c b 0) table)
-  rows_are table bs n same e =
-      let z = ap (λ xs. total_fetches (take b xs)) same in
-      let f = ap (λ xs. (block_at xs b).fetches) same in
-      let start : n ≡ row_of c b 0 = omega arith in
-      let count : (n + (block_at bs b).fetches) - n ≡ fetches_of c b = omega arith in
-      ap₂ (λ k m. take k (drop m table)) count start
+    pub rows_are : {X : Type 0} (table : List X) → take ((n + x.fetches) - n) (drop n table) ≡ take (fetches_of c b) (drop (row_of c b 0) table)
+    rows_are table =
+        let f = ap (λ (y : Block). y.fetches) x-is in
+        let start : n ≡ row_of c b 0 = omega arith in
+        let count : (n + x.fetches) - n ≡ fetches_of c b = omega arith in
+        ap₂ (λ k m. take k (drop m table)) count start
 
   module _ (format : InFormat c) where
     pub block_range : BlockRange (block_at c.blocks b)
@@ -101,14 +99,15 @@ module _ (c : Contents) (b : ℕ) (inside : b < length c.blocks) where
         let e : row_of c b 0 + j ≡ row_of c b j = omega arith in
         get_or-take (fetches_of c b) (drop (row_of c b 0) table) j [] h ∙ get_or-drop (row_of c b 0) table j [] ∙ ap (λ k. get_or table k []) e
 
-    pub paying_is : (later : Bool) → paying_rows later rows ≡ paying c (mark_at c table) (pays later) b
-    paying_is later =
-        let t : ℕ → Bool = λ j. pays later (level_at (get_or rows j []) 0) in
-        let u : ℕ → Bool = λ j. pays later (mark_at c table b j (innermost (all_loops c) b)) in
-        ap (λ n. length (passing t (range_with_len 0 n))) rows_long
+    pub paying_is : (pays : Category → Bool) → paying_rows pays rows ≡ paying c (mark_at c table) pays b
+    paying_is pays =
+        let t : ℕ → Bool = λ j. pays (level_at (get_or rows j []) 0) in
+        let u : ℕ → Bool = λ j. pays (mark_at c table b j (innermost (all_loops c) b)) in
+        count_passing (λ row. pays (level_at row 0)) [] rows
+        ∙ ap (λ n. length (passing t (range_with_len 0 n))) rows_long
         ∙ ap length (passing_same t u 0 (fetches_of c b) (λ k l h.
-        ap (λ row. pays later (level_at row 0)) (row_is k (omega arith))
-        ∙ ap (λ n. pays later (level_at (get_or table (row_of c b k) []) n)) (sym (innermost_level (all_loops c) b (omega arith)))))
+        ap (λ row. pays (level_at row 0)) (row_is k (omega arith))
+        ∙ ap (λ n. pays (level_at (get_or table (row_of c b k) []) n)) (sym (innermost_level (all_loops c) b (omega arith)))))
 
     -- the lines charged at a loop around the block, by its rows
     pub charged_are : (i level depth : ℕ) → i < length (all_loops c) → within (loop_at (all_loops c) i) b ≡ true → level ≡ level_of c b i → depth ≡ above_from (all_loops c) b 0
@@ -122,10 +121,6 @@ module _ (c : Contents) (b : ℕ) (inside : b < length c.blocks) where
         ∙ ap₂ (λ x y. charged_row x y (get_or table (row_of c b k) [])) level_is depth-eq
         ∙ sym (charged_fetch_lem c table b k i number around-it)))
         ∙ sym (append-nil (map (line_of c b) (passing (charged_fetch c (mark_at c table) i b) (range_with_len 0 (fetches_of c b)))))
-
--- the level of loop i, by the loops behind it
-pub level_is : (c : Contents) (b i : ℕ) (ls : List Loop) → ls ≡ c.loops → length (around (take (length ls - i) (drop i ls)) b) ≡ level_of c b i
-level_is c b i ls same = ap (λ xs. length (around xs b)) (take_rest ls i) ∙ ap (λ xs. length (around (drop i xs) b)) same
 
 -- the loops have blocks, and these are the task's
 module _ (c : Contents) (format : InFormat c) (sound : Sound c) where

@@ -1,3 +1,4 @@
 pub mod Figure
 pub mod Price
 pub mod Row
+pub mod Marked

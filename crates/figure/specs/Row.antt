@@ -1,14 +1,13 @@
 -- What the rows of a table of categories come to.
-use Rattle.std.specs.Prelude.{ℕ, zero, suc, ◌+◌, ◌-◌, Bool, true, false, not, ◌&&◌, ◌||◌, List, [], length, slice_index_or}
-use Rattle.std.specs.List.{range_with_len}
+use Rattle.std.specs.Prelude.{ℕ, zero, suc, ◌+◌, ◌-◌, Bool, false, not, ◌&&◌, ◌||◌, List, slice_index_or}
+use Rattle.std.specs.List.{count_by}
+use Rattle.records.specs.Contents.{Contents}
+use Rattle.longest.specs.declared.ByRound.{ByRound}
+use Rattle.longest.specs.Search.{by_round}
 use Rattle.categories.specs.declared.category.Category.{Category}
 use Rattle.categories.specs.declared.category.Category.TheVariants.{AlwaysMiss}
-use Rattle.categories.specs.Costs.{is_first_miss, pays_first, pays_later, passing}
-
--- a penalty is charged for each fetch, in a later round of the innermost loop or in its first
-abbrev pub pays : Bool → Category → Bool
-pays true = pays_later
-pays false = pays_first
+use Rattle.categories.specs.Category.{Marks}
+use Rattle.categories.specs.Costs.{is_first_miss, pays_first, pays_later, paying}
 
 -- the category of a row at a level
 abbrev pub level_at : List Category → ℕ → Category
@@ -24,5 +23,9 @@ abbrev pub charged_row : ℕ → ℕ → List Category → Bool
 charged_row level depth row = is_first_miss (level_at row level) && not (miss_from row (level + 1) (depth - (level + 1)))
 
 -- how many of these rows pay, by their innermost level
-abbrev pub paying_rows : Bool → List (List Category) → ℕ
-paying_rows later rows = length (passing (λ j. pays later (level_at (slice_index_or rows j []) 0)) (range_with_len 0 (length rows)))
+abbrev pub paying_rows : (Category → Bool) → List (List Category) → ℕ
+paying_rows pays rows = count_by (λ row. pays (level_at row 0)) rows
+
+-- how many of block b's fetches pay, in each kind of round
+abbrev pub paying_both : Contents → Marks → ℕ → ByRound ℕ
+paying_both c marks b = by_round (paying c marks pays_first b) (paying c marks pays_later b)

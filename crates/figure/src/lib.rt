@@ -13,10 +13,10 @@ mod price;
 mod rows;
 
 use crate::charge::greatest;
-use crate::counts::{charged_by_loop, paying_by_block};
+use crate::counts::MarkedTask;
 use crate::outcome::*;
-use crate::rows::first_row;
 use categories::category::Category;
+use marks::places::total_fetches;
 use std::alloc::{AllocError, Global};
 use task::Task;
 
@@ -24,20 +24,17 @@ use task::Task;
 fn has_row_for_each(task: &Task, table: &[[Category; 8]]) -> bool
     ensures { Decides result (RowForEach (task_contents task.now) table.now) }
 {
-    let blocks = task.record.blocks.as_slice();
-    table.len() == first_row(blocks, blocks.len())
+    table.len() == total_fetches(task)
 }
 
-// The figures by a table that has a row for each fetch.
-fn figures_by(heap: Global, task: &Task, table: &[[Category; 8]]) -> Result<Figures, AllocError>
-    requires { RowForEach (task_contents task.now) table.now }
-    ensures { IfOk result (λ f. FiguresBy (task_contents task.now) table.now f) }
+// The figures by the categories of the fetches.
+fn figures_by(heap: Global, marked: &MarkedTask<'_>) -> Result<Figures, AllocError>
+    ensures { IfOk result (λ f. FiguresBy (task_contents marked.now.task.now) marked.now.table.now f) }
 {
-    let first = paying_by_block(heap, task, table, false)?;
-    let later = paying_by_block(heap, task, table, true)?;
-    let lines = charged_by_loop(heap, task, table)?;
-    let cycles = greatest(heap, task, &first, &later, &lines)?;
-    let pair = greatest(heap, task, &first, &later, &lines)?;
+    let paying = marked.paying_by_block(heap)?;
+    let lines = marked.charged_by_loop(heap)?;
+    let cycles = greatest::<u64>(heap, marked.task, &paying, &lines)?;
+    let pair = greatest::<(u64, u64)>(heap, marked.task, &paying, &lines)?;
     Ok(Figures {
         cycles,
         greatest: pair,
@@ -51,5 +48,5 @@ pub fn figures(heap: Global, task: &Task, table: &[[Category; 8]]) -> Result<Fig
     if !has_row_for_each(task, table) {
         return Err(FigureError::TableLength);
     }
-    Ok(figures_by(heap, task, table)?)
+    Ok(figures_by(heap, &MarkedTask { task, table })?)
 }

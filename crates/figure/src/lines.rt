@@ -2,7 +2,7 @@
 ghost use Rattle.std.specs.Prelude.{◌≡◌, ◌<◌, ◌≤◌, [], map, length, OnOk, slice_index_or};
 ghost use Rattle.std.specs.List.{range_with_len};
 ghost use Rattle.cache_state.specs.Cache.{fetch_line};
-ghost use Rattle.categories.specs.Costs.{passing, one_of_these, added, distinct};
+ghost use Rattle.categories.specs.Costs.{passing, added, distinct};
 ghost use Rattle.figure.specs.Row.{charged_row};
 
 use crate::rows::is_charged;
@@ -11,18 +11,13 @@ use categories::category::Category;
 use records::parts::*;
 use std::alloc::AllocError;
 
-// Whether the line is one of them.
-fn is_one_of(lines: &[u32], line: u32) -> bool
-    ensures { result ≡ one_of_these line lines.now }
-{
-    lines.contains(&line)
-}
-
 // The line is added if it is not one of them.
 fn add_line(lines: &mut Vec<u32>, line: u32) -> Result<(), AllocError>
     ensures { OnOk result (lines.new.items ≡ added lines.old.items line) }
 {
-    if !is_one_of(lines, line) {
+    // A list, as in the definition: of a set it would have to be shown apart that it has the same lines
+    // and as many.
+    if !lines.contains(&line) {
         lines.push(line)?;
     }
     Ok(())
@@ -43,6 +38,7 @@ pub(crate) fn add_block(
     requires low { block.address ≤ 16777215 }
     ensures { OnOk result (lines.new.items ≡ distinct lines.old.items (map (fetch_line geometry block) (passing (λ j. charged_row level depth (slice_index_or rows.now j [])) (range_with_len 0 (length rows.now))))) }
 {
+    // A loop, since memory can run out at each line.
     for (fetch, row) in rows.iter().enumerate() {
         if is_charged(row, level, depth) {
             add_line(lines, program_line(&block, fetch as u32, geometry))?;

@@ -5,9 +5,10 @@ ghost use Rattle.records.specs.declared.parts.Block.{Block as BlockOf};
 ghost use Rattle.figure.specs.Price.{block_cycles, stay_cycles, block_pair, stay_pair};
 
 use records::parts::*;
+use run::fetches::entry_cycles;
 use tally::Tally;
 
-// The ghost prices are unbounded numbers; the code agrees with them where these are small.
+// What a count costs.
 pub trait Price: Tally {
     ghost of_block: { HeaderOf → BlockOf → ℕ → Self };
 
@@ -15,11 +16,12 @@ pub trait Price: Tally {
 
     // An entry of a block, when so many of its fetches pay.
     fn block(header: Header, block: Block, paying: u32) -> Self
-        ensures { Self.Tally.size (of_block header block paying) < 2 ^ 32 → result ≡ of_block header block paying };
+        requires { Self.size (of_block header block paying) < 2 ^ 32 }
+        ensures { result ≡ of_block header block paying };
 
     // A stay in a loop, when so many lines are charged there.
     fn stay(header: Header, lines: u32) -> Self
-        ensures { Self.Tally.size (of_stay header lines) < 2 ^ 32 → result ≡ of_stay header lines };
+        ensures { result ≡ of_stay header lines };
 }
 
 impl Price for u64 {
@@ -28,9 +30,7 @@ impl Price for u64 {
     ghost of_stay = { stay_cycles };
 
     fn block(header: Header, block: Block, paying: u32) -> u64 {
-        let hits = header.hit as u64 * block.fetches as u64;
-        let penalties = header.penalty as u64 * paying as u64;
-        (block.cycles as u64).saturating_add(hits.saturating_add(penalties))
+        entry_cycles(header, block, paying)
     }
 
     fn stay(header: Header, lines: u32) -> u64 {

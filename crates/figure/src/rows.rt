@@ -1,31 +1,33 @@
 // Rows of a table of categories.
-ghost use Rattle.std.specs.Prelude.{◌≡◌, ◌+◌, ◌<◌, ◌≤◌, length, take};
-ghost use Rattle.task.specs.Graph.{within, around, total_fetches};
-ghost use Rattle.categories.specs.Costs.{is_first_miss};
-ghost use Rattle.figure.specs.Row.{pays, charged_row, paying_rows};
+ghost use Rattle.std.specs.Prelude.{◌≡◌, ◌<◌, ◌≤◌, length};
+ghost use Rattle.std.specs.List.{list_any};
+ghost use Rattle.categories.specs.Costs.{is_first_miss, pays_first, pays_later};
+ghost use Rattle.figure.specs.Row.{level_at, charged_row, paying_rows};
 
 use categories::category::Category;
-use records::parts::*;
+use longest::ByRound;
 
-// Whether a penalty is charged for each fetch of this category at its innermost loop, in a later round or in the first.
-fn is_paid(category: Category, later: bool) -> bool
-    ensures { result ≡ pays later category }
+// Whether a fetch with this row pays a penalty each time in a first round of its innermost loop.
+fn pays_in_first(row: &[Category; 8]) -> bool
+    ensures { result ≡ pays_first (level_at row.now 0) }
 {
-    match category {
-        Category::AlwaysHit => false,
-        Category::FirstMiss => false,
-        Category::FirstHit => later,
-        Category::AlwaysMiss => true,
-    }
+    row[0] == Category::AlwaysMiss
 }
 
-fn is_first_miss(category: Category) -> bool
-    ensures { result ≡ is_first_miss category }
+// The same in a later round.
+fn pays_in_later(row: &[Category; 8]) -> bool
+    ensures { result ≡ pays_later (level_at row.now 0) }
 {
-    match category {
-        Category::FirstMiss => true,
-        Category::AlwaysHit | Category::FirstHit | Category::AlwaysMiss => false,
-    }
+    matches!(row[0], Category::FirstHit | Category::AlwaysMiss)
+}
+
+// Whether one of these is a first miss.
+fn has_first_miss(categories: &[Category]) -> bool
+    ensures { result ≡ list_any is_first_miss categories.now }
+{
+    categories
+        .iter()
+        .any(|category| *category == Category::FirstMiss)
 }
 
 // Whether a fetch with this row is a first miss at the level, and at none further out.
@@ -33,56 +35,19 @@ pub(crate) fn is_charged(row: &[Category; 8], level: usize, depth: usize) -> boo
     requires { (level < depth) × (depth ≤ 8) }
     ensures { result ≡ charged_row level depth row.now }
 {
-    for outer in level + 1..depth {
-        if is_first_miss(row[outer]) {
-            return false;
-        }
-    }
-    is_first_miss(row[level])
+    // Level and depth come one by one, and not as a range: the row is read at the level, and then behind it.
+    row[level] == Category::FirstMiss && !has_first_miss(&row[level + 1..depth])
 }
 
-// How many of these rows pay, in a later round or in the first.
-pub(crate) fn paying(rows: &[[Category; 8]], later: bool) -> u32
+// How many of these rows pay in a first and in a later round.
+pub(crate) fn paying(rows: &[[Category; 8]]) -> ByRound<u32>
     requires { length rows.now ≤ 64 }
-    ensures { result ≡ paying_rows later rows.now }
+    ensures first { result.first ≡ paying_rows pays_first rows.now }
+    ensures later { result.later ≡ paying_rows pays_later rows.now }
 {
-    let mut count = 0;
-    for row in rows {
-        if is_paid(row[0], later) {
-            count += 1;
-        }
+    // Both parts are written out: one function over a closure would need clauses on the closure.
+    ByRound {
+        first: rows.iter().filter(|row| pays_in_first(*row)).count() as u32,
+        later: rows.iter().filter(|row| pays_in_later(*row)).count() as u32,
     }
-    count
-}
-
-// The row of the first fetch of block b.
-pub(crate) fn first_row(blocks: &[Block], b: usize) -> usize
-    requires { (b ≤ length blocks.now) × (total_fetches blocks.now ≤ 1024) }
-    ensures { result ≡ total_fetches (take b blocks.now) }
-{
-    let mut row = 0;
-    for before in 0..b {
-        row += blocks[before].fetches as usize;
-    }
-    row
-}
-
-// Whether block b is in the loop.
-fn is_within(l: Loop, b: usize) -> bool
-    ensures { result ≡ within l b }
-{
-    l.header <= b && b <= l.last
-}
-
-// How many of these loops have block b.
-pub(crate) fn loops_around(loops: &[Loop], b: usize) -> usize
-    ensures { result ≡ length (around loops.now b) }
-{
-    let mut count = 0;
-    for l in loops {
-        if is_within(*l, b) {
-            count += 1;
-        }
-    }
-    count
 }

@@ -1,7 +1,10 @@
 -- Marking, block by block and loop by loop.
-use Rattle.std.proofs.Common.{◌≡◌, ℕ, ◌+◌, ◌<◌, ◌≤◌, Bool, ◌&&◌, ◌||◌, eqb, ◌≢◌, ◌⊎◌, List, [], ◌∷◌, length, get_or, take, Some, Option, sym, refl, ap, ◌∙◌, subst, ap₂, inl, inr, arith}
+use Rattle.std.proofs.Common.{◌≡◌, ℕ, ◌+◌, ◌<◌, ◌≤◌, Bool, true, false, ◌&&◌, ◌||◌, eqb, ◌≢◌, ◌⊎◌, List, [], ◌∷◌, length, get_or, take, Some, Option, Bor, sym, refl, ap, ◌∙◌, subst, ap₂, inl, inr, arith}
 use Rattle.std.proofs.lemmas.List.{get_or-take, get_or_read}
 use Rattle.std.proofs.lemmas.Bool.{cases_eq, cases_lt}
+use Rattle.std.specs.List.{list_all}
+use Rattle.std.specs.Bool.{then_some}
+use Rattle.std.specs.Option.{option_copied}
 use Rattle.records.specs.declared.parts.Geometry.{Geometry}
 use Rattle.records.specs.declared.parts.Loop.{Loop}
 use Rattle.records.specs.declared.parts.Edge.{Edge}
@@ -17,11 +20,11 @@ use Rattle.facts.specs.Settling.{starts, state_at, task_states}
 use Rattle.passed_kind.specs.declared.PassedBlocks.{PassedBlocks}
 use Rattle.passed_kind.specs.Passed.{passed_kind}
 use Rattle.categories.specs.declared.category.Category.{Category}
-use Rattle.categories.specs.Category.{all_pass, leads_back, gated, passed_by, fetches_of, Marks}
+use Rattle.categories.specs.Category.{alone, first_fitting, line_of, leads_back, gated, passed_by, fetches_of, Marks}
 use Rattle.categories.proofs.Lists.{starts_among}
 use Rattle.marks.specs.Table.{row_of, level_of, mark_at, Agrees}
 use Rattle.marks.specs.Marked.{task_marks, Lent, Fits, Marked}
-use Rattle.marks.specs.Steps.{passed_in, fitting, Filled, whole_states, round_states, passed_states, Settled, MarkedTo}
+use Rattle.marks.specs.Steps.{passed_in, sure_in, sure_in_first, fitting, Filled, whole_states, round_states, passed_states, Settled, MarkedTo}
 use Rattle.marks.proofs.Counts.{rows_ascend, levels_descend}
 
 -- two loops around a block have different levels there
@@ -83,11 +86,11 @@ module _ (c : Contents) (marks : Marks) (table : List (List Category)) where
 
 -- two tests that agree on the starts of a task's edges
 module _ (c : Contents) (format : InFormat c) (f g : ℕ → Bool) (same : (x : ℕ) → x < length c.blocks → f x ≡ g x) where
-  all_same : (xs : List ℕ) → ((x : ℕ) → Among x xs → f x ≡ g x) → all_pass f xs ≡ all_pass g xs
+  all_same : (xs : List ℕ) → ((x : ℕ) → Among x xs → f x ≡ g x) → list_all f xs ≡ list_all g xs
   all_same [] h = refl
   all_same (x ∷ xs) h = ap₂ ◌&&◌ (h x (inl refl)) (all_same xs (λ y m. h y (inr m)))
 
-  pub starts_same : (test : Edge → Bool) → all_pass f (starts test c.edges) ≡ all_pass g (starts test c.edges)
+  pub starts_same : (test : Edge → Bool) → list_all f (starts test c.edges) ≡ list_all g (starts test c.edges)
   starts_same test = all_same (starts test c.edges) (λ x m.
       let s = starts_among test c.edges x m in
       let r = (edge_range_at c format s.0 s.1).from in
@@ -99,13 +102,24 @@ settled_at : {K : Type 0} (k : Kind K) (c : Contents) (states settled : List K) 
 settled_at k c states settled s b h =
     sym (get_or-take (length c.blocks) states b k.nothing_yet h) ∙ ap (λ xs. state_at k xs b) s.front
 
+-- the state behind a reference that is there if the gate is
+pub copied_if : {K : Type 0} (gate : Bool) (x : Bor K) → option_copied (then_some gate x) ≡ then_some gate x.now
+copied_if true x = refl
+copied_if false x = refl
+
+-- a first round's state is asked only where the further rounds are gated
+gated_first : {K : Type 0} (kind : Geometry → Kind K) (fetched : Geometry → ℕ → K → K) (c : Contents) (gate : Bool) (y : K) (b j : ℕ)
+    → sure_in_first kind fetched c (then_some gate y) b j ≡ (gate && sure_in kind fetched c y b j)
+gated_first kind fetched c true y b j = refl
+gated_first kind fetched c false y b j = refl
+
 module _ {K : Type 0} (kind : Geometry → Kind K) (fetched : Geometry → ℕ → K → K) (c : Contents) (format : InFormat c) (i b : ℕ) (hb : b < length c.blocks) where
   -- what is read from settled states gives the marks
   pub fitting_marks : (settled first : List K) (passed : List PassedBlocks) (x y : K) (gate : Bool)
       → Settled c settled (whole_states kind c) → Settled c first (round_states kind c i) → Settled c passed (passed_states c)
       → x ≡ state_at (kind c.header.geometry) settled b → y ≡ state_at (kind c.header.geometry) first b
       → gate ≡ gated (passed_in (length c.blocks) passed) c (loop_at (all_loops c) i) b
-      → (j : ℕ) → fitting kind fetched c (loop_at (all_loops c) i) b x y gate j ≡ task_marks kind fetched c b j i
+      → (j : ℕ) → fitting kind fetched c (loop_at (all_loops c) i) b x (then_some gate y) j ≡ task_marks kind fetched c b j i
   fitting_marks settled first passed x y gate s f p ex ey eg j =
       let k = kind c.header.geometry in
       let l = loop_at (all_loops c) i in
@@ -115,8 +129,9 @@ module _ {K : Type 0} (kind : Geometry → Kind K) (fetched : Geometry → ℕ �
       let gates : gate ≡ gated (passed_by q c) c l b =
       eg ∙ starts_same c format (λ z. eqb b z || passed_in (length c.blocks) passed z b) (λ z. eqb b z || passed_by q c z b)
       (λ z h. ap (λ st. eqb b z || q.sure st b) (settled_at q c passed (passed_states c) p z h)) (leads_back l) in
-      ap (λ v. fitting kind fetched c l b v y gate j) whole
-      ∙ ap₂ (λ v u. fitting kind fetched c l b (state_at k (whole_states kind c) b) v u j) round gates
+      ap (first_fitting (sure_in kind fetched c x b j) (alone c l (line_of c b j))) (gated_first kind fetched c gate y b j)
+      ∙ ap (λ v. first_fitting (sure_in kind fetched c v b j) (alone c l (line_of c b j)) (gate && sure_in kind fetched c y b j)) whole
+      ∙ ap₂ (λ v u. first_fitting (sure_in kind fetched c (state_at k (whole_states kind c) b) b j) (alone c l (line_of c b j)) (u && sure_in kind fetched c v b j)) round gates
 
 -- what is done at a block of loop i
 module _ {K : Type 0} (kind : Geometry → Kind K) (fetched : Geometry → ℕ → K → K) (c : Contents) (format : InFormat c) (i : ℕ) (hi : i < length (all_loops c)) where
@@ -127,7 +142,7 @@ module _ {K : Type 0} (kind : Geometry → Kind K) (fetched : Geometry → ℕ �
       → b < length c.blocks → range.header ≤ b → b ≤ range.last
       → x ≡ get_or settled b x → y ≡ get_or first b y → gate ≡ gated (passed_in (length c.blocks) passed) c range b
       → MarkedTo c (task_marks kind fetched c) i b before
-      → Filled before after row (fetches_of c b) level (fitting kind fetched c range b x y gate)
+      → Filled before after row (fetches_of c b) level (fitting kind fetched c range b x (then_some gate y))
       → MarkedTo c (task_marks kind fetched c) i (b + 1) after
   block_marked b before after settled first passed range row level x y gate s f p er ew el hb low high ex ey eg done filled =
       let k = kind c.header.geometry in
@@ -135,12 +150,12 @@ module _ {K : Type 0} (kind : Geometry → Kind K) (fetched : Geometry → ℕ �
       let h = ap (λ (r : Loop). r.header) er in
       let q = ap (λ (r : Loop). r.last) er in
       let w : Within (loop_at (all_loops c) i) b = (omega arith, omega arith) in
-      let ranged = subst (λ r. Filled before after row (fetches_of c b) level (fitting kind fetched c r b x y gate)) er filled in
-      let rowed = subst (λ n. Filled before after n (fetches_of c b) level (fitting kind fetched c l b x y gate)) ew ranged in
-      let placed = subst (λ n. Filled before after (total_fetches (take b c.blocks)) (fetches_of c b) n (fitting kind fetched c l b x y gate)) el rowed in
+      let ranged = subst (λ r. Filled before after row (fetches_of c b) level (fitting kind fetched c r b x (then_some gate y))) er filled in
+      let rowed = subst (λ n. Filled before after n (fetches_of c b) level (fitting kind fetched c l b x (then_some gate y))) ew ranged in
+      let placed = subst (λ n. Filled before after (total_fetches (take b c.blocks)) (fetches_of c b) n (fitting kind fetched c l b x (then_some gate y))) el rowed in
       let rs = s.room in
       let rf = f.room in
-      marked_block c (task_marks kind fetched c) i b before after (fitting kind fetched c l b x y gate) hi hb w done placed
+      marked_block c (task_marks kind fetched c) i b before after (fitting kind fetched c l b x (then_some gate y)) hi hb w done placed
       (λ j m. fitting_marks kind fetched c format i b hb settled first passed x y gate s f p
       (get_or_read settled b x (omega arith) ex k.nothing_yet) (get_or_read first b y (omega arith) ey k.nothing_yet)
       (eg ∙ ap (λ r. gated (passed_in (length c.blocks) passed) c r b) er) j)

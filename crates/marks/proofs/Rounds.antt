@@ -1,9 +1,6 @@
 -- Settling a task's loop in the front of a list.
-use Rattle.std.proofs.Common.{◌≡◌, ℕ, ◌+◌, ◌*◌, ◌<◌, ◌≤◌, Bool, true, List, ◌++◌, length, take, drop, Some, Option, ap, ◌∙◌, ap₂, arith, length-append}
+use Rattle.std.proofs.Common.{◌≡◌, ℕ, ◌+◌, ◌*◌, ◌<◌, ◌≤◌, Bool, true, List, ◌++◌, length, take, drop, Some, Option, ap, ◌∙◌, arith, length-append}
 use Rattle.std.proofs.lemmas.List.{take_at, length-set, length-replicate}
-use Rattle.records.specs.declared.parts.Block.{Block}
-use Rattle.records.specs.declared.parts.Edge.{Edge}
-use Rattle.records.specs.declared.parts.Loop.{Loop}
 use Rattle.records.specs.Contents.{Contents}
 use Rattle.records.specs.Layout.{InFormat}
 use Rattle.task.specs.Graph.{loop_at}
@@ -21,16 +18,11 @@ length-settled k r entry =
     passes_kept k r (λ xs. length xs ≡ length r.blocks) (λ xs e. length-pass k r xs ∙ e) (length r.blocks * k.height + 1) (begun k r entry)
     (simp (length-set, length-replicate))
 
--- the region of a task's loop, as the code has its parts
-region_is : (c : Contents) (i : ℕ) (bs : List Block) (es : List Edge) (range : Loop) → bs ≡ c.blocks → es ≡ c.edges → range ≡ loop_at (all_loops c) i
-    → region_of bs es range ≡ region_of c.blocks c.edges (loop_at (all_loops c) i)
-region_is c i bs es range eb ee er = ap₂ (λ xs ys. region_of xs ys range) eb ee ∙ ap (region_of c.blocks c.edges) er
-
+-- q is the region of a task's loop
 module _ {K : Type 0} (k : Kind K) (taken : Bool) (takes : taken ≡ true) (c : Contents) (format : InFormat c) (sound : Sound c) (i : ℕ) (l : i < length (all_loops c))
-    (bs : List Block) (es : List Edge) (range : Loop) (eb : bs ≡ c.blocks) (ee : es ≡ c.edges) (er : range ≡ loop_at (all_loops c) i)
-    (xs : List K) (long : length c.blocks ≤ length xs) where
+    (q : Region) (is : q ≡ region_of c.blocks c.edges (loop_at (all_loops c) i)) (xs : List K) (long : length c.blocks ≤ length xs) where
   -- what settling leaves
-  pub settled_front : (entry : K) (o : Option ℕ) (ys : List K) → (o, ys) ≡ outcome k taken (region_of bs es range) entry xs
+  pub settled_front : (entry : K) (o : Option ℕ) (ys : List K) → (o, ys) ≡ outcome k taken q entry xs
       → (o ≡ Some (settled k (region_of c.blocks c.edges (loop_at (all_loops c) i)) entry).1)
       × Settled c ys (settled k (region_of c.blocks c.edges (loop_at (all_loops c) i)) entry).0
   settled_front entry o ys e =
@@ -38,7 +30,7 @@ module _ {K : Type 0} (k : Kind K) (taken : Bool) (takes : taken ≡ true) (c : 
       let zs : List K = (settled k r entry).0 in
       let Pair : Type 0 = Option ℕ × List K in
       let all : ◌≡◌ {A = Pair} (o, ys) (Some (settled k r entry).1, zs ++ drop (length c.blocks) xs) =
-      e ∙ ap (λ q. outcome k taken q entry xs) (region_is c i bs es range eb ee er) ∙ task_outcome k taken takes c format sound xs long i l entry in
+      e ∙ ap (λ r. outcome k taken r entry xs) is ∙ task_outcome k taken takes c format sound xs long i l entry in
       let made : ys ≡ zs ++ drop (length c.blocks) xs = ap (λ p. p.1) all in
       let n = length-settled k r entry in
       let m : length ys ≡ length (zs ++ drop (length c.blocks) xs) = ap length made in
@@ -51,8 +43,8 @@ module _ {K : Type 0} (k : Kind K) (taken : Bool) (takes : taken ≡ true) (c : 
       )
 
   -- the state in which stays in the loop begin
-  pub entry_known : Settled c xs (task_states k c).0 → (o : Option K) → o ≡ entry_of k taken (region_of bs es range) xs
+  pub entry_known : Settled c xs (task_states k c).0 → (o : Option K) → o ≡ entry_of k taken q xs
       → o ≡ Some (entry_state k (region_of c.blocks c.edges (loop_at (all_loops c) i)) (task_states k c).0)
   entry_known s o e =
-      e ∙ ap (λ q. entry_of k taken q xs) (region_is c i bs es range eb ee er) ∙ task_entry k taken takes c format sound xs long i l
+      e ∙ ap (λ r. entry_of k taken r xs) is ∙ task_entry k taken takes c format sound xs long i l
       ∙ ap (λ v. Some (entry_state k (region_of c.blocks c.edges (loop_at (all_loops c) i)) v)) s.front

@@ -1,6 +1,8 @@
 -- What the steps of marking work on.
-use Rattle.std.specs.Prelude.{◌≡◌, ℕ, ◌+◌, ◌<◌, ◌≤◌, Bool, not, ◌&&◌, ◌||◌, ◌≢◌, ◌⊎◌, List, [], length, take, ◌==◌, slice_index_or, slice_set}
+use Rattle.std.specs.Prelude.{◌≡◌, ℕ, ◌+◌, ◌<◌, ◌≤◌, Bool, false, not, ◌||◌, ◌≢◌, ◌⊎◌, List, [], map, length, take, min, Some, None, Option, ◌==◌, slice_index_or, slice_set}
 use Rattle.records.specs.declared.parts.Geometry.{Geometry}
+use Rattle.std.specs.List.{range_with_len}
+use Rattle.records.specs.declared.parts.Block.{Block}
 use Rattle.records.specs.declared.parts.Edge.{Edge}
 use Rattle.records.specs.declared.parts.Loop.{Loop}
 use Rattle.records.specs.Contents.{Contents}
@@ -8,12 +10,17 @@ use Rattle.task.specs.Graph.{loop_at, Within}
 use Rattle.walks.specs.Walk.{all_loops}
 use Rattle.facts.specs.Kind.{Kind}
 use Rattle.facts.specs.Settling.{state_at, task_states, first_states}
+use Rattle.cache_state.specs.Cache.{empty, fetch_line}
 use Rattle.passed_kind.specs.declared.PassedBlocks.{PassedBlocks}
 use Rattle.passed_kind.specs.Passed.{passed_kind}
 use Rattle.categories.specs.Category.{fetches_of, line_of, alone, leads_back, first_fitting, sure_fetch, Marks}
 use Rattle.categories.specs.declared.category.Category.{Category}
 use Rattle.categories.specs.declared.category.Category.TheVariants.{AlwaysMiss}
 use Rattle.marks.specs.Table.{mark_at}
+
+-- the lines of a block's fetches as the code works them out: one that does not fit is no line
+abbrev pub given_lines : Geometry → Block → List ℕ
+given_lines g b = map (λ j. min (fetch_line g b j) empty) (range_with_len 0 b.fetches)
 
 -- block b was passed on the way to block x, by the entry states of n blocks
 abbrev pub passed_in : ℕ → List PassedBlocks → ℕ → ℕ → Bool
@@ -27,11 +34,16 @@ keeps_gate passed l b e = not (leads_back l e) || (b == e.from || passed e.from 
 abbrev pub sure_in : {K : Type 0} → (Geometry → Kind K) → (Geometry → ℕ → K → K) → Contents → K → ℕ → ℕ → Bool
 sure_in kind fetched c x b j = sure_fetch (kind c.header.geometry) (fetched c.header.geometry) c x b j
 
--- the category of fetch j of block b at a loop around it, by the block's settled state, its state in the loop's first round,
--- and whether the further rounds are gated by the block
-abbrev pub fitting : {K : Type 0} → (Geometry → Kind K) → (Geometry → ℕ → K → K) → Contents → Loop → ℕ → K → K → Bool → ℕ → Category
-fitting kind fetched c l b settled first gate j =
-    first_fitting (sure_in kind fetched c settled b j) (alone c l (line_of c b j)) (gate && sure_in kind fetched c first b j)
+-- the same in a state of a loop's first round, where there is one
+abbrev pub sure_in_first : {K : Type 0} → (Geometry → Kind K) → (Geometry → ℕ → K → K) → Contents → Option K → ℕ → ℕ → Bool
+sure_in_first kind fetched c None b j = false
+sure_in_first kind fetched c (Some x) b j = sure_in kind fetched c x b j
+
+-- the category of fetch j of block b at a loop around it, by the block's settled state and, if the further rounds are gated by
+-- the block, its state in the loop's first round
+abbrev pub fitting : {K : Type 0} → (Geometry → Kind K) → (Geometry → ℕ → K → K) → Contents → Loop → ℕ → K → Option K → ℕ → Category
+fitting kind fetched c l b settled first j =
+    first_fitting (sure_in kind fetched c settled b j) (alone c l (line_of c b j)) (sure_in_first kind fetched c first b j)
 
 -- the category at a place of a row
 abbrev pub place_at : List (List Category) → ℕ → ℕ → Category

@@ -11,11 +11,9 @@ use task::loops::within;
 pub fn fetches_before(task: &Task, b: usize) -> usize
     ensures { result ≡ total_fetches (take b (task_contents task.now).blocks) }
 {
-    let mut fetches = 0;
-    for i in 0..b.min(task.record.blocks.len()) {
-        fetches += task.record.blocks[i].fetches as usize;
-    }
-    fetches
+    let blocks = task.record.blocks.as_slice();
+    let before = &blocks[..b.min(blocks.len())];
+    before.iter().map(|block| block.fetches as usize).sum()
 }
 
 // The fetches of all blocks.
@@ -29,11 +27,9 @@ pub fn total_fetches(task: &Task) -> usize
 pub fn level_of(task: &Task, number: usize, b: usize) -> usize
     ensures { result ≡ level_of (task_contents task.now) b number }
 {
-    let mut level = 0;
-    for i in number..task.record.loops.len() {
-        if within(task.record.loops[i], b) {
-            level += 1;
-        }
-    }
-    level
+    let loops = task.record.loops.as_slice().iter();
+    loops
+        .skip(number)
+        .filter(|range| within(**range, b))
+        .count()
 }

@@ -23,7 +23,7 @@ block_read c b x l e = get_or_read c.blocks b x l e (record { address = 0; fetch
 pub length-lines : (c : Contents) (b : ℕ) → length (lines_of c b) ≡ (block_at c.blocks b).fetches
 length-lines c b = length-map-range_with_len (fetch_line c.header.geometry (block_at c.blocks b)) 0 (block_at c.blocks b).fetches
 
-saturated : (n x : ℕ) → n ≡ min x (2 ^ 64 - 1) → x < 2 ^ 64 → n ≡ x
+pub saturated : (n x : ℕ) → n ≡ min x (2 ^ 64 - 1) → x < 2 ^ 64 → n ≡ x
 saturated n x e l = e ∙ min-eq_left (omega arith)
 
 -- runs that agree in each part

@@ -7,8 +7,7 @@ ghost use Rattle.task.specs.View.{task_contents};
 ghost use Rattle.run.specs.Run.{entered, fresh};
 ghost use Rattle.run.specs.Open.{run_of, Spent, Fits, Stepped};
 
-mod fetches;
-mod lists;
+pub mod fetches;
 mod stays;
 
 use crate::fetches::*;
@@ -20,10 +19,12 @@ use task::Task;
 #[derive(Drop)]
 pub struct OpenWalk {
     pub block: usize,
-    // The program line that each slot of the cache holds, or EMPTY.
+    // The program line that each slot of the cache holds, or EMPTY. The task, which sets how many slots and loops there
+    // are, is no part of the walk, so that the lengths of the two lists are no fact of it.
     pub cache: Vec<u32>,
-    // The rounds of the current stay in each loop, the task loop first; 0 without a stay.
+    // The rounds of the current stay in each loop, the task loop first; 0 without a stay, which is a count and no flag.
     pub rounds: Vec<u32>,
+    // The counts are parts of the walk; only the answer on where it stands gives them again.
     pub cycles: u64,
     pub misses: u64,
     pub fetches: u64,
@@ -84,7 +85,7 @@ impl OpenWalk {
         self.cycles = self
             .cycles
             .saturating_add(entry_cycles(header, entered, misses));
-        self.misses = self.misses.saturating_add(misses as u64);
-        self.fetches = self.fetches.saturating_add(entered.fetches as u64);
+        self.misses = self.misses.saturating_add(u64::from(misses));
+        self.fetches = self.fetches.saturating_add(u64::from(entered.fetches));
     }
 }

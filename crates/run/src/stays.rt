@@ -6,31 +6,18 @@ ghost use Rattle.walks.specs.Walk.{all_loops};
 ghost use Rattle.run.specs.Run.{next_rounds, entered_rounds};
 ghost use Rattle.run.specs.Open.{SpentOf};
 
-use crate::lists::*;
 use records::parts::*;
 use std::alloc::{AllocError, Global};
 use task::Task;
 use task::loops::within;
 use walks::loops::loop_at;
 
-// Whether an edge leads from block p to block b.
-fn leads(edges: &[Edge], p: usize, b: usize) -> bool
-    ensures { Decides result (Leads edges.now p b) }
-{
-    for e in edges {
-        if e.from == p && e.to == b {
-            return true;
-        }
-    }
-    false
-}
-
 // Whether an edge of the task leads from block p to block b, which is then one of its blocks.
 pub(crate) fn is_next(task: &Task, p: usize, b: usize) -> bool
     ensures edge { Decides result (Leads (task_contents task.now).edges p b) }
     ensures block { result ≡ true → b < length (task_contents task.now).blocks }
 {
-    leads(task.record.edges.as_slice(), p, b)
+    task.record.edges.contains(&Edge { from: p, to: b })
 }
 
 // The rounds of so many loops without a stay.
@@ -51,12 +38,11 @@ fn has_spent(l: Loop, b: usize, rounds: u32) -> bool
 pub(crate) fn is_spent(task: &Task, rounds: &[u32], b: usize) -> bool
     ensures { Decides result (SpentOf (all_loops (task_contents task.now)) rounds.now b) }
 {
-    for i in 0..task.record.loops.len() + 1 {
-        if has_spent(loop_at(task, i), b, read_or(rounds, i, 0)) {
-            return true;
-        }
-    }
-    false
+    // By number: the task loop is none of the task's list of loops.
+    (0..task.record.loops.len() + 1).any(|i| {
+        let rounds = rounds.get(i).copied().unwrap_or(0);
+        has_spent(loop_at(task, i), b, rounds)
+    })
 }
 
 // The rounds of a loop's stay once block b is entered.
@@ -76,8 +62,8 @@ fn next_rounds(l: Loop, b: usize, rounds: u32) -> u32
 pub(crate) fn enter_rounds(task: &Task, b: usize, rounds: &mut [u32])
     ensures { length rounds.old ≡ length (all_loops (task_contents task.now)) → (SpentOf (all_loops (task_contents task.now)) rounds.old b → ⊥) → rounds.new ≡ entered_rounds (all_loops (task_contents task.now)) b rounds.old }
 {
-    for i in 0..task.record.loops.len() + 1 {
-        let next = next_rounds(loop_at(task, i), b, read_or(rounds, i, 0));
-        put(rounds, i, next);
+    // By index: the number picks the loop too, and what `iter_mut` under `enumerate` writes is not known to a proof.
+    for i in 0..rounds.len() {
+        rounds[i] = next_rounds(loop_at(task, i), b, rounds[i]);
     }
 }

@@ -24,18 +24,20 @@ settle_task-passes-requires g c =
     let t = task_contents c.args.task.now in
     record { taken = g.met.K.CacheState.everywhere t.header.geometry (record_in_range t c.args.task.now.«record».ranges); room = omega arith }
 
+pub invariant_of-whole : goal.invariant_of-whole
+invariant_of-whole g c =
+    let t = task_contents c.args.task.now in
+    let n : c.len-blocks.result ≡ length (vec_items c.args.task.now.«record».blocks) = omega arith in
+    record {
+      whole = c.settle_task-passes.ensures.settled;
+      walks = subst (λ m. Settled t c.settle_task.new.states (task_states (passed_kind m) t).0) n c.settle_task.ensures.settled;
+    }
+
 pub mark_loops-requires : goal.mark_loops-requires
 mark_loops-requires g c =
     let fitting = c.if-not-lists_fit.ensures.0 refl in
     let both = fitting.whole_and_round in
-    let t = task_contents c.args.task.now in
-    let n : c.len-blocks.result ≡ length (vec_items c.args.task.now.«record».blocks) = omega arith in
-    record {
-      room = omega arith;
-      rows = fitting.fetches;
-      whole = c.settle_task-passes.ensures.settled;
-      walks = subst (λ m. Settled t c.settle_task.new.states (task_states (passed_kind m) t).0) n c.settle_task.ensures.settled;
-    }
+    record { room = omega arith; rows = fitting.fetches }
 
 pub returns : goal.returns
 returns g c =

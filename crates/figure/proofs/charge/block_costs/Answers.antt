@@ -1,22 +1,25 @@
-use Rattle.std.proofs.Common.{◌<◌, length, get_or, vec_items, arith}
-use Rattle.std.proofs.lemmas.List.{get_or_read}
-use Rattle.task.specs.Graph.{block_at}
+-- Each block's price may be asked, as it fits.
+use Rattle.std.proofs.Common.{ℕ, sym, subst, rules}
+use Rattle.std.specs.List.{zip}
+use Rattle.std.proofs.lemmas.List.Elements.{All-get_or}
+use Rattle.std.proofs.lemmas.Iterator.{YieldsList-from_slice, YieldsList-from_zip}
+use Rattle.std.proofs.lemmas.Iterator.Adapters.{serves_from_places}
+use borrow.Author.Tests.{tests}
+use Rattle.records.specs.declared.parts.Block.{Block}
+use Rattle.longest.specs.declared.ByRound.{ByRound}
 use Rattle.task.specs.View.{task_contents}
-use Rattle.figure.proofs.Lists.{values_more, values_all}
-use Rattle.figure.proofs.Pricing.{price_is}
+use Rattle.search.specs.Outcome.{BothFit}
+use Rattle.figure.specs.Price.{both_priced}
 use Rattle.figure.proofs.charge.block_costs.Goals as goal
 
-pub loop-b-preserved : goal.loop-b-preserved
-loop-b-preserved g c =
+pub collect-requires-clause-can : goal.collect-requires-clause-can
+collect-requires-clause-can g c =
     let k = task_contents c.args.task.now in
-    let b = c.loop-b.b in
-    let of = g.T.Price.of_block k.header in
-    let inside : b < length k.blocks = omega (arith, c.loop-b-test.true, c.requires.long) in
-    let read = get_or_read k.blocks b c.index.result.now inside c.index.ensures (record { address = 0; fetches = 0; cycles = 0 }) in
-    let here = price_is (λ x. of x (get_or c.args.paying.now b 0)) g.T.Tally.size c.index.result.now (block_at k.blocks b) c.block.result read (c.requires.small b inside) c.block.ensures in
-    values_more (λ n. of (block_at k.blocks n) (get_or c.args.paying.now n 0)) b (vec_items c.loop-b.costs) (vec_items c.push.new.self) c.block.result c.loop-b.invariant here c.in_ok-push.ensures.items
-
-pub returns : goal.returns
-returns g c =
-    let k = task_contents c.args.task.now in
-    values_all (λ n. g.T.Price.of_block k.header (block_at k.blocks n) (get_or c.args.paying.now n 0)) c.loop-b.b (length k.blocks) (vec_items c.loop-b.costs) c.loop-b.invariant (omega (arith, c.loop-b-test.false, c.requires.long))
+    let Fit : Block × ByRound ℕ → Type 0 = λ p. BothFit g.T.Tally.size (both_priced g.T.Price.of_block k.header p) in (
+      (tt, tt),
+      serves_from_places (YieldsList-from_zip (YieldsList-from_slice k.blocks (cc)) (YieldsList-from_slice c.args.paying.now (cc)))
+          (λ x q r. search (rules, tests))
+          (λ x j l e.
+          let fit = subst Fit (sym e) (All-get_or Fit (zip k.blocks c.args.paying.now) j (x.0.now, x.1.now) l c.requires) in
+          search rules),
+    )

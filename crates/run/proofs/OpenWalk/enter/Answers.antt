@@ -1,15 +1,13 @@
-use Rattle.std.proofs.Common.{◌≡◌, ◌≤◌, length, sym, refl, ap, ◌∙◌, subst, arith}
+use Rattle.std.proofs.Common.{◌≡◌, ◌+◌, ◌-◌, ◌^◌, min, length, refl, ap, ◌∙◌, subst, arith}
 use Rattle.std.proofs.lemmas.List.{with_items_is}
-use Rattle.records.specs.declared.parts.Block.{Block}
 use Rattle.task.specs.View.{task_contents}
-use Rattle.task.proofs.Ranged.{block_range_at}
 use Rattle.walks.specs.Walk.{all_loops}
 use Rattle.facts.specs.Space.{placed}
 use Rattle.cache_state.specs.Cache.{fetch_lines, fetch_cache, fetch_all}
 use Rattle.run.specs.Run.{misses_of, entered_rounds}
 use Rattle.run.specs.Open.{run_of, SpentOf}
 use Rattle.facts.proofs.Space.{block_placed}
-use Rattle.run.proofs.Entering.{block_read, entered_is}
+use Rattle.run.proofs.Entering.{block_read, saturated, entered_is}
 use Rattle.run.proofs.OpenWalk.enter.Goals as goal
 
 pub fetch_block-misses-requires : goal.fetch_block-misses-requires
@@ -17,14 +15,6 @@ fetch_block-misses-requires c =
     let t = c.args.task.now in
     ap placed (block_read (task_contents t) c.args.block c.index.result.now c.requires c.index.ensures)
     ∙ block_placed (task_contents t) t.sound c.args.block c.requires
-
-pub overflow_cast-entered : goal.overflow_cast-entered
-overflow_cast-entered c =
-    let t = c.args.task.now in
-    let few : c.index.result.now.fetches ≤ 64 =
-    subst (λ (x : Block). x.fetches ≤ 64) (sym (block_read (task_contents t) c.args.block c.index.result.now c.requires c.index.ensures))
-    (block_range_at (task_contents t) t.«record».ranges c.args.block c.requires).fetches in
-    omega arith
 
 pub returns : goal.returns
 returns c fits free =
@@ -44,8 +34,8 @@ returns c fits free =
       held = kept ∙ c.fetch_block-misses.ensures.cache ∙ ap (fetch_all (fetch_cache g) (fetch_lines g block)) c.deref_mut.ensures.value;
       stays = long ∙ subst (λ rs. length rs ≡ length ls → (SpentOf ls rs b → ⊥) → rounds ≡ entered_rounds ls b rs) c.deref_mut-2.ensures.value c.enter_rounds.ensures fits.long free;
       few = c.fetch_block-misses.ensures.misses ∙ ap (misses_of g (fetch_lines g block)) c.deref_mut.ensures.value;
-      price = c.entry_cycles.ensures;
+      price = saturated _ _ c.entry_cycles.ensures;
       cycles = c.saturating_add-self.ensures;
-      misses = c.saturating_add-self-2.ensures;
-      fetches = c.saturating_add-self-3.ensures;
+      misses = c.saturating_add-self-2.ensures ∙ ap (λ n. min (w.misses + n) (2 ^ 64 - 1)) c.from.ensures;
+      fetches = c.saturating_add-self-3.ensures ∙ ap (λ n. min (w.fetches + n) (2 ^ 64 - 1)) c.from-2.ensures;
     })

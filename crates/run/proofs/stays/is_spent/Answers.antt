@@ -1,20 +1,19 @@
-use Rattle.std.proofs.Common.{refl, ap, arith, below_more}
-use Rattle.std.proofs.lemmas.Bool.{false≢true}
-use Rattle.records.specs.declared.parts.Loop.{Loop}
+use Rattle.std.proofs.Common.{◌≡◌, ℕ, ◌≤◌, length, get_or, refl, rules, tests, arith}
+use Rattle.std.proofs.lemmas.Grind.{common_steps}
+use Rattle.std.proofs.lemmas.Option.{gets}
+use Rattle.std.proofs.lemmas.Iterator.{YieldsList-from_range, cases_from_any}
+use Rattle.task.specs.Graph.{loop_at}
+use Rattle.task.specs.View.{task_contents}
+use Rattle.task.proofs.Finite.{any_below}
+use Rattle.walks.specs.Walk.{all_loops}
 use Rattle.run.proofs.stays.is_spent.Goals as goal
 
-pub returns-then-has_spent : goal.returns-then-has_spent
-returns-then-has_spent c =
-    let spent = c.if-has_spent.ensures.0 refl in
-    let header = ap (λ (l : Loop). l.header) c.loop_at.ensures.range in
-    let limit = ap (λ (l : Loop). l.limit) c.loop_at.ensures.range in
-    (λ _. (c.loop-i.i, omega arith, omega arith, omega arith), λ _. refl)
-
-pub loop-i-preserved : goal.loop-i-preserved
-loop-i-preserved c =
-    let header = ap (λ (l : Loop). l.header) c.loop_at.ensures.range in
-    let limit = ap (λ (l : Loop). l.limit) c.loop_at.ensures.range in
-    below_more _ _ c.loop-i.invariant (λ h l. false≢true (c.if-has_spent.ensures.1 (omega arith, omega arith)))
-
 pub returns : goal.returns
-returns c = (λ e. absurd (false≢true e), λ (k, h, e, l). absurd (c.loop-i.invariant k (omega arith) e l))
+returns c =
+    let ls = all_loops (task_contents c.args.task.now) in
+    let Full : ℕ → Type 0 = λ i. ((loop_at ls i).header ≡ c.args.b) × ((loop_at ls i).limit ≤ get_or c.args.rounds.now i 0) in
+    any_below Full (λ i. Full i → ⊥) (length ls) _ c.any.result
+    (cases_from_any _ _ c.any.result Full (λ i. Full i → ⊥) c.any.ensures.ran (YieldsList-from_range 0 _ (length ls) refl (omega arith))
+    (λ x q k. grind (arith, common_steps, gets)) (λ x q k. (search (rules, tests), λ full. grind (arith, common_steps, gets))))
+    (λ k h full. (k, h, full.0, full.1))
+    (λ (k, h, e, l) none. none k h (e, l))

@@ -1,6 +1,0 @@
-use Rattle.std.proofs.Common.{◌≡◌, ℕ, ◌<◌}
-use Rattle.task.specs.Graph.{edge_at}
-use Rattle.run.proofs.stays.leads.Given as goal
-
-abbrev pub invariant-loop-e : goal.invariant-loop-e
-invariant-loop-e l = (k : ℕ) → k < l.e-index → (edge_at l.edges k).from ≡ l.p → (edge_at l.edges k).to ≡ l.b → ⊥
