@@ -12,6 +12,7 @@ mod stages;
 use crate::stage::Stage;
 use std::alloc::Global;
 
+// Where a bench takes its memory, and its stage with what that holds.
 #[derive(Drop)]
 pub struct Bench {
     heap: Global,

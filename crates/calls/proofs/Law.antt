@@ -1,5 +1,5 @@
 -- After every list of calls the plain run has come to one end, and the bench answers by it.
-use Rattle.std.proofs.Common.{◌≡◌, ℕ, zero, suc, ◌+◌, ◌*◌, ◌≤◌, List, length, Ok, Err, Result, refl, subst, arith}
+use Rattle.std.proofs.Common.{◌≡◌, ℕ, ◌+◌, ◌*◌, ◌≤◌, List, length, Ok, Err, Result, refl, subst, arith}
 use Rattle.records.specs.declared.parts.Geometry.{Geometry}
 use Rattle.facts.specs.Kind.{Kind}
 use Rattle.facts.specs.Settling.{task_states}
@@ -46,10 +46,10 @@ module _ {K : Type 0} (kind : Geometry → Kind K) (fetched : Geometry → ℕ �
       × (n ≤ length (plain_task p).blocks * (kind (plain_task p).header.geometry).height + 1)
 
   passes_few : {v : View} {p : Plain} → Tied v p → (n : ℕ) → ExamineCall kind fetched work v (Ok n) after w → FewPasses p n
-  passes_few at_unused n (wrong, same) = absurd (let z : zero ≡ suc zero = cc in omega arith)
+  passes_few at_unused n (wrong, same) = absurd (cc)
   passes_few (at_loaded c format sound) n (long, passes, holds, same) = (passes, omega (arith, holds.few))
   passes_few (at_examined c f format sound found) n (long, passes, holds, same) = (passes, omega (arith, holds.few))
-  passes_few (at_walking c f s u run format sound found along) n (wrong, same) = absurd (let z : zero ≡ suc zero = cc in omega arith)
+  passes_few (at_walking c f s u run format sound found along) n (wrong, same) = absurd (cc)
 
   settles : {v : View} (h : History v) (r : Result ℕ Refusal) → ExamineCall kind fetched work v r after w → Settles h kind r
   settles h (Ok n) call = let before = leads h in let few = passes_few before.tied n call in (before.plain, before.fed, few.0, few.1)

@@ -16,12 +16,14 @@ use Rattle.categories.specs.Meaning.{KeptAlways, CoveredAlways}
 use Rattle.marks.specs.Table.{level_of}
 use Rattle.marks.specs.Marked.{task_marks}
 use Rattle.examine.specs.Findings.{Findings, findings, category_at}
-use Rattle.examine.specs.Outcome.{Warranted}
+use Rattle.examine.specs.Examined.{Warranted}
 use Rattle.examine.proofs.Categories.{category_found}
 use Rattle.calls.specs.declared.fault.BenchFault.{BenchFault}
 use Rattle.calls.specs.declared.fault.BenchFault.TheVariants.{WrongStage}
 use Rattle.calls.specs.declared.refusal.Refusal.{Refusal}
-use Rattle.calls.specs.declared.refusal.Refusal.TheVariants.{Bench, NoMemory}
+use Rattle.calls.specs.declared.refusal.Refusal.TheVariants.{Bench}
+use Rattle.calls.specs.declared.stage.StageName.{StageName}
+use Rattle.calls.specs.Refusal.{no_memory}
 use Rattle.calls.specs.View.{View, unused, loaded, examined, walking}
 use Rattle.calls.specs.Held.{Along}
 use Rattle.calls.specs.Plain.{Plain}
@@ -98,11 +100,11 @@ module _ {A : Type 0} (r : Result A Refusal) (next : Plain → Plain → Type 0)
   pub refuses : (f : BenchFault) → r ≡ Err (Bench f) → Led w (next p) → Led w (Fed r next p)
   refuses f e led = subst (λ (y : Result A Refusal). Led w (Fed y next p)) (sym e) led
 
-  pub lacks : (v : View) → r ≡ Err NoMemory → w ≡ v → Tied v p → Led w (Fed r next p)
+  pub lacks : (v : View) → r ≡ Err no_memory → w ≡ v → Tied v p → Led w (Fed r next p)
   lacks v e same tied = subst (λ (y : Result A Refusal). Led w (Fed y next p)) (sym e) (stays v w p same tied)
 
 -- a call that is not of the stage leaves both as they are
-pub wrong_stage : {A : Type 0} (r : Result A Refusal) (next : Plain → Plain → Type 0) {v w : View} {p : Plain} (n : ℕ) → Tied v p
+pub wrong_stage : {A : Type 0} (r : Result A Refusal) (next : Plain → Plain → Type 0) {v w : View} {p : Plain} {n : StageName} → Tied v p
     → r ≡ Err (Bench (WrongStage n)) → w ≡ v → next p p → ((q : Plain) → next p q → q ≡ p) → Led w (Fed r next p)
-wrong_stage r next {v} {w} {p} n tied wrong same stay only =
+wrong_stage r next {v} {w} {p} {n} tied wrong same stay only =
     refuses r next w p (WrongStage n) wrong (record { plain = p; fed = stay; only = only; tied = retied v w p same tied })

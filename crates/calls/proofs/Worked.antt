@@ -10,7 +10,7 @@ use Rattle.facts.specs.Kind.{Kind}
 use Rattle.run.specs.Run.{Run}
 use Rattle.run.specs.Open.{Spent}
 use Rattle.examine.specs.Findings.{findings}
-use Rattle.examine.specs.Outcome.{Warranted}
+use Rattle.examine.specs.Examined.{Warranted}
 use Rattle.calls.specs.Outcomes.{Reads, Free}
 use Rattle.calls.specs.Held.{Along}
 use Rattle.calls.specs.Example.{at_first, started, second, walked, Worked}

@@ -1,7 +1,6 @@
 -- What a bench answers to the questions about its findings and its walk.
 use Rattle.std.specs.Prelude.{ℕ, true, false, length, Ok, Err, Result, nat_lt}
 use Rattle.records.specs.Contents.{Contents}
-use Rattle.run.specs.Run.{Run}
 use Rattle.categories.specs.declared.category.Category.{Category}
 use Rattle.categories.specs.Category.{fetches_of, levels_of}
 use Rattle.figure.specs.declared.outcome.Figures.{Figures}
@@ -13,6 +12,7 @@ use Rattle.calls.specs.declared.fault.Part.TheVariants.{Block, Fetch, Level}
 use Rattle.calls.specs.declared.fault.BenchFault.TheVariants.{WrongStage, NoSuch}
 use Rattle.calls.specs.declared.refusal.Refusal.{Refusal}
 use Rattle.calls.specs.declared.refusal.Refusal.TheVariants.{Bench}
+use Rattle.calls.specs.Standing.{standing}
 use Rattle.calls.specs.View.{View, stage_of, taken, task_of, found_of, walk_of}
 
 -- a call that is not of the stage is refused before all else
@@ -36,9 +36,6 @@ category_answer c f b j l =
 
 abbrev pub ask_answer : View → ℕ → ℕ → ℕ → Result Category Refusal
 ask_answer v b j l = admitted Ask v (category_answer (task_of v) (found_of v) b j l)
-
-abbrev pub standing : Run → Standing
-standing r = record { block = r.block; cycles = r.cycles; misses = r.misses; fetches = r.fetches }
 
 -- where the open walk stands, and what it has counted
 abbrev pub stand_answer : View → Result Standing Refusal

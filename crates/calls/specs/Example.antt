@@ -7,7 +7,8 @@ use Rattle.facts.specs.Kind.{Kind}
 use Rattle.cache_state.specs.Cache.{Cache, empty}
 use Rattle.run.specs.Run.{Run, run_along}
 use Rattle.examine.specs.Findings.{Findings}
-use Rattle.calls.specs.declared.fault.BenchFault.TheVariants.{NoEdge}
+use Rattle.run.specs.declared.StepFault.TheVariants.{NoEdge}
+use Rattle.calls.specs.declared.fault.BenchFault.TheVariants.{Step as Stuck}
 use Rattle.calls.specs.declared.refusal.Refusal.TheVariants.{Bench}
 use Rattle.calls.specs.View.{unused, loaded, examined, walking}
 use Rattle.calls.specs.Answers.{stand_answer}
@@ -32,7 +33,7 @@ pub record Worked {K : Type 0} (kind : Geometry → Kind K) (fetched : Geometry 
   pub load : LoadCall (record_text example) unused (Ok tt) (loaded example)
   pub examine : ExamineCall kind fetched work (loaded example) (Ok f.passes) after (examined example f)
   pub start : StartCall at_first (examined example f) (Ok tt) (walking example f started)
-  pub aside : StepCall 2 (walking example f started) (Err (Bench (NoEdge 2))) (walking example f started)
+  pub aside : StepCall 2 (walking example f started) (Err (Bench (Stuck (NoEdge 2)))) (walking example f started)
   pub on : StepCall 1 (walking example f started) (Ok tt) (walking example f second)
   pub through : StepCall 2 (walking example f second) (Ok tt) (walking example f walked)
   pub stand : stand_answer (walking example f walked) ≡ Ok (record { block = 2; cycles = 23; misses = 2; fetches = 5 })

@@ -15,9 +15,11 @@ use Rattle.marks.specs.Table.{level_of}
 use Rattle.figure.specs.declared.outcome.Figures.{Figures}
 use Rattle.calls.specs.declared.call.Standing.{Standing}
 use Rattle.calls.specs.declared.refusal.Refusal.{Refusal}
-use Rattle.calls.specs.declared.refusal.Refusal.TheVariants.{Text, Graph, Bench, NoMemory}
+use Rattle.load.specs.declared.refusal.Refusal.TheVariants.{Text, Graph, NoMemory}
+use Rattle.calls.specs.declared.refusal.Refusal.TheVariants.{Record, Bench}
+use Rattle.calls.specs.Standing.{standing}
 use Rattle.calls.specs.View.{View, unused, stage_of, task_of}
-use Rattle.calls.specs.Answers.{figure_answer, ask_answer, standing, stand_answer}
+use Rattle.calls.specs.Answers.{figure_answer, ask_answer, stand_answer}
 use Rattle.calls.specs.Outcomes.{LoadCall, ExamineCall, StartCall, StepCall, CloseCall, WriteCall, ListCall}
 use Rattle.calls.specs.Plain.{Plain, plain_stage, plain_task, PlainLoad, PlainExamine, PlainStart, PlainStep, PlainClose}
 use Rattle.calls.specs.Plain as plainly
@@ -41,10 +43,10 @@ pub data History : View → Type 1 where
 -- the call was refused for want of memory
 abbrev pub wanting : {A : Type 0} → Result A Refusal → Bool
 wanting (Ok x) = false
-wanting (Err (Text f)) = false
-wanting (Err (Graph f)) = false
+wanting (Err (Record (Text f))) = false
+wanting (Err (Record (Graph f))) = false
+wanting (Err (Record NoMemory)) = true
 wanting (Err (Bench f)) = false
-wanting (Err NoMemory) = true
 
 -- a call refused for want of memory is as if it had not been made
 abbrev pub Fed : {A : Type 0} → Result A Refusal → (Plain → Plain → Type 0) → Plain → Plain → Type 0

@@ -1,5 +1,6 @@
 pub mod Fault
 pub mod Refusal
+pub mod Standing
 pub mod View
 pub mod Answers
 pub mod Outcomes

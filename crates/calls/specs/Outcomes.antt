@@ -11,16 +11,17 @@ use Rattle.facts.specs.Kind.{Kind}
 use Rattle.cache_state.specs.Cache.{Cache}
 use Rattle.run.specs.Run.{Run, entered, fresh}
 use Rattle.run.specs.Open.{Spent}
+use Rattle.run.specs.declared.StepFault.TheVariants.{NoEdge, LimitSpent}
 use Rattle.examine.specs.Findings.{findings}
-use Rattle.examine.specs.Outcome.{Warranted}
+use Rattle.examine.specs.Examined.{Warranted}
 use Rattle.listing.specs.Text.{block_text}
 use Rattle.calls.specs.declared.call.Call.{Call}
 use Rattle.calls.specs.declared.call.Call.TheVariants.{Load, Examine, Start, Step, Close, Write, List as Listing}
 use Rattle.calls.specs.declared.fault.Part.TheVariants.{Block}
-use Rattle.calls.specs.declared.fault.BenchFault.TheVariants.{WrongStage, StartLength, NoEdge, LimitSpent, NoSuch, TooShort}
+use Rattle.calls.specs.declared.fault.BenchFault.TheVariants.{WrongStage, StartLength, Step as Stuck, NoSuch, TooShort}
 use Rattle.calls.specs.declared.refusal.Refusal.{Refusal}
-use Rattle.calls.specs.declared.refusal.Refusal.TheVariants.{Bench, NoMemory}
-use Rattle.calls.specs.Refusal.{carried}
+use Rattle.calls.specs.declared.refusal.Refusal.TheVariants.{Record, Bench}
+use Rattle.calls.specs.Refusal.{no_memory}
 use Rattle.calls.specs.View.{View, loaded, examined, walking, stage_of, taken, task_of, found_of, walk_of}
 
 -- A call that is not of the stage is refused before all else, and changes nothing; else it has its own outcome.
@@ -37,7 +38,7 @@ pub record Reads (t : List ℕ) (c : Contents) : Type 0 where
 -- the task of the record, or what refuses the record
 abbrev pub Loaded : List ℕ → View → Result Unit Refusal → View → Type 0
 Loaded t v (Ok u) w = (c : Contents) × Reads t c × (w ≡ loaded c)
-Loaded t v (Err e) w = (w ≡ v) × ((f : RecordRefusal) × (e ≡ carried f) × Loading t (Err f))
+Loaded t v (Err e) w = (w ≡ v) × ((f : RecordRefusal) × (e ≡ Record f) × Loading t (Err f))
 
 abbrev pub LoadCall : List ℕ → View → Result Unit Refusal → View → Type 0
 LoadCall t v r w = Admitted Load v r (w ≡ v) (Loaded t v r w)
@@ -52,7 +53,7 @@ module _ {K : Type 0} (kind : Geometry → Kind K) (fetched : Geometry → ℕ �
   Examines work v (Err e) after w =
       (after ≡ work) × (w ≡ v)
       × (((e ≡ Bench (TooShort (2 * length (task_of v).blocks))) × (length work < 2 * length (task_of v).blocks))
-      ⊎ ((e ≡ NoMemory) × (2 * length (task_of v).blocks ≤ length work)))
+      ⊎ ((e ≡ no_memory) × (2 * length (task_of v).blocks ≤ length work)))
 
   abbrev pub ExamineCall : List K → View → Result ℕ Refusal → List K → View → Type 0
   ExamineCall work v r after w = Admitted Examine v r ((after ≡ work) × (w ≡ v)) (Examines work v r after w)
@@ -64,7 +65,7 @@ Starts cache v (Ok u) w =
 Starts cache v (Err e) w =
     (w ≡ v)
     × (((e ≡ Bench (StartLength (task_of v).header.geometry.slots)) × (length cache ≡ (task_of v).header.geometry.slots → ⊥))
-    ⊎ ((e ≡ NoMemory) × (length cache ≡ (task_of v).header.geometry.slots)))
+    ⊎ ((e ≡ no_memory) × (length cache ≡ (task_of v).header.geometry.slots)))
 
 abbrev pub StartCall : Cache → View → Result Unit Refusal → View → Type 0
 StartCall cache v r w = Admitted Start v r (w ≡ v) (Starts cache v r w)
@@ -78,8 +79,8 @@ abbrev pub Steps : ℕ → View → Result Unit Refusal → View → Type 0
 Steps b v (Ok u) w = Free (task_of v) (walk_of v) b × (w ≡ walking (task_of v) (found_of v) (entered (task_of v) b (walk_of v)))
 Steps b v (Err e) w =
     (w ≡ v)
-    × (((e ≡ Bench (NoEdge b)) × (Leads (task_of v).edges (walk_of v).block b → ⊥))
-    ⊎ ((e ≡ Bench (LimitSpent b)) × Leads (task_of v).edges (walk_of v).block b × Spent (task_of v) (walk_of v) b))
+    × (((e ≡ Bench (Stuck (NoEdge b))) × (Leads (task_of v).edges (walk_of v).block b → ⊥))
+    ⊎ ((e ≡ Bench (Stuck (LimitSpent b))) × Leads (task_of v).edges (walk_of v).block b × Spent (task_of v) (walk_of v) b))
 
 abbrev pub StepCall : ℕ → View → Result Unit Refusal → View → Type 0
 StepCall b v r w = Admitted Step v r (w ≡ v) (Steps b v r w)

@@ -5,6 +5,8 @@ use Rattle.cache_state.specs.Cache.{Cache}
 use Rattle.run.specs.Run.{Run, entered, fresh}
 use Rattle.calls.specs.declared.call.Call.{Call}
 use Rattle.calls.specs.declared.call.Call.TheVariants.{Load, Examine, Start, Step, Close}
+use Rattle.calls.specs.declared.stage.StageName.{StageName}
+use Rattle.calls.specs.declared.stage.StageName.TheVariants.{Unused, Loaded, Examined, Walking}
 use Rattle.calls.specs.View.{taken, no_task, no_walk}
 use Rattle.calls.specs.Outcomes.{Reads, Free}
 
@@ -16,11 +18,11 @@ pub data Plain : Type 0 where
   examined : Contents → Plain
   walking : Contents → Cache → List ℕ → Run → Plain
 
-abbrev pub plain_stage : Plain → ℕ
-plain_stage unused = 0
-plain_stage (loaded c) = 1
-plain_stage (examined c) = 2
-plain_stage (walking c s w r) = 3
+abbrev pub plain_stage : Plain → StageName
+plain_stage unused = Unused
+plain_stage (loaded c) = Loaded
+plain_stage (examined c) = Examined
+plain_stage (walking c s w r) = Walking
 
 abbrev pub plain_task : Plain → Contents
 plain_task unused = no_task

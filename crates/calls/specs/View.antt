@@ -1,10 +1,12 @@
 -- What a bench holds, and the stages in which it takes each call.
-use Rattle.std.specs.Prelude.{ℕ, Bool, ◌||◌, [], ◌==◌, nat_lt}
+use Rattle.std.specs.Prelude.{Bool, true, false, not, ◌&&◌, []}
 use Rattle.records.specs.Contents.{Contents}
 use Rattle.run.specs.Run.{Run}
 use Rattle.examine.specs.Findings.{Findings}
 use Rattle.calls.specs.declared.call.Call.{Call}
 use Rattle.calls.specs.declared.call.Call.TheVariants.{Load, Examine, Start, Step, Close, Write, Figure, Ask, List, Stand}
+use Rattle.calls.specs.declared.stage.StageName.{StageName}
+use Rattle.calls.specs.declared.stage.StageName.TheVariants.{Unused, Loaded, Examined, Walking}
 
 -- A bench by its stage: the task, what was found of it, and what the open walk has come to.
 pub data View : Type 0 where
@@ -13,24 +15,43 @@ pub data View : Type 0 where
   examined : Contents → Findings → View
   walking : Contents → Findings → Run → View
 
-abbrev pub stage_of : View → ℕ
-stage_of unused = 0
-stage_of (loaded c) = 1
-stage_of (examined c f) = 2
-stage_of (walking c f r) = 3
+abbrev pub stage_of : View → StageName
+stage_of unused = Unused
+stage_of (loaded c) = Loaded
+stage_of (examined c f) = Examined
+stage_of (walking c f r) = Walking
+
+-- what a bench holds at a stage
+abbrev pub has_task : StageName → Bool
+has_task Unused = false
+has_task Loaded = true
+has_task Examined = true
+has_task Walking = true
+
+abbrev pub has_findings : StageName → Bool
+has_findings Unused = false
+has_findings Loaded = false
+has_findings Examined = true
+has_findings Walking = true
+
+abbrev pub has_walk : StageName → Bool
+has_walk Unused = false
+has_walk Loaded = false
+has_walk Examined = false
+has_walk Walking = true
 
 -- the stages of each call
-abbrev pub taken : Call → ℕ → Bool
-taken Load s = nat_lt s 3
-taken Examine s = s == 1 || s == 2
-taken Start s = s == 2
-taken Step s = s == 3
-taken Close s = s == 3
-taken Write s = nat_lt 0 s
-taken Figure s = nat_lt 1 s
-taken Ask s = nat_lt 1 s
-taken List s = nat_lt 1 s
-taken Stand s = s == 3
+abbrev pub taken : Call → StageName → Bool
+taken Load s = not (has_walk s)
+taken Examine s = has_task s && not (has_walk s)
+taken Start s = has_findings s && not (has_walk s)
+taken Step s = has_walk s
+taken Close s = has_walk s
+taken Write s = has_task s
+taken Figure s = has_findings s
+taken Ask s = has_findings s
+taken List s = has_findings s
+taken Stand s = has_walk s
 
 -- The parts of what a bench holds; a part that its stage lacks is blank.
 abbrev pub no_task : Contents

@@ -9,5 +9,5 @@ use facts::Facts;
 
 // With every kind of cache state the calls on the worked record come out as their contracts say, up to an open walk.
 pub fn example_history<K: CacheState>()
-    ensures { (work after : List K) → 8 ≤ length work → Worked K.Facts.kind K.CacheState.fetched work after (findings K.Facts.kind K.CacheState.fetched example) }
+    ensures { (work after : List K) → 8 ≤ length work → Worked K.kind K.fetched work after (findings K.kind K.fetched example) }
 {}

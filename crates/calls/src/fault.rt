@@ -1,29 +1,40 @@
 // What can be wrong with a call on a bench.
 ghost use Rattle.std.specs.Prelude.{◌≡◌};
-ghost use Rattle.calls.specs.Fault.{number, place};
+ghost use Rattle.calls.specs.Fault.{number, part_number, place};
+
+use crate::stage::StageName;
+use run::StepFault;
 
 // A part of a task that a question names.
 #[derive(Clone, Copy)]
 pub enum Part {
-    Block,
-    Fetch,
-    Level,
+    Block = 0,
+    Fetch = 1,
+    Level = 2,
+}
+
+impl Part {
+    // The number that a refusal places the part by.
+    pub fn number(self) -> usize
+        ensures { result ≡ part_number self }
+    {
+        self as usize
+    }
 }
 
 // The rules that a call is held to, in this order.
 #[derive(Clone, Copy)]
 pub enum BenchFault {
     // The call is not of the bench's stage, which is named.
-    WrongStage(usize),
+    WrongStage(StageName),
     // The starting list is not as long as the cache has slots.
     StartLength(usize),
-    // No edge leads to the block asked for.
-    NoEdge(usize),
-    // The stay in the loop of this header has had its limit of rounds.
-    LimitSpent(usize),
+    // The walk cannot go on to the block asked for.
+    Step(StepFault),
     // The task has no such part.
     NoSuch(Part),
-    // A buffer or a working list is shorter than this.
+    // A buffer or a working list is shorter than this: one rule for what the writer and the examination say of what
+    // they are lent.
     TooShort(usize),
 }
 
@@ -32,11 +43,12 @@ impl BenchFault {
     pub fn number(&self) -> u32
         ensures { result ≡ number self.now }
     {
+        // A match: a case that carries a value cannot have its number where it is named.
         match self {
             BenchFault::WrongStage(_) => 15,
             BenchFault::StartLength(_) => 16,
-            BenchFault::NoEdge(_) => 17,
-            BenchFault::LimitSpent(_) => 18,
+            BenchFault::Step(StepFault::NoEdge(_)) => 17,
+            BenchFault::Step(StepFault::LimitSpent(_)) => 18,
             BenchFault::NoSuch(_) => 19,
             BenchFault::TooShort(_) => 20,
         }
@@ -46,15 +58,11 @@ impl BenchFault {
     pub fn place(&self) -> usize
         ensures { result ≡ place self.now }
     {
-        match self {
-            BenchFault::WrongStage(n)
-            | BenchFault::StartLength(n)
-            | BenchFault::NoEdge(n)
-            | BenchFault::LimitSpent(n)
-            | BenchFault::TooShort(n) => *n,
-            BenchFault::NoSuch(Part::Block) => 0,
-            BenchFault::NoSuch(Part::Fetch) => 1,
-            BenchFault::NoSuch(Part::Level) => 2,
+        match *self {
+            BenchFault::WrongStage(stage) => stage.number(),
+            BenchFault::StartLength(length) | BenchFault::TooShort(length) => length,
+            BenchFault::Step(StepFault::NoEdge(block) | StepFault::LimitSpent(block)) => block,
+            BenchFault::NoSuch(part) => part.number(),
         }
     }
 }

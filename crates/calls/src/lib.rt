@@ -5,3 +5,4 @@ pub mod call;
 pub mod example;
 pub mod fault;
 pub mod refusal;
+pub mod stage;

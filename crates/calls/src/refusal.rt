@@ -1,8 +1,8 @@
 // Why a call on a bench is refused.
 ghost use Rattle.std.specs.Prelude.{◌≡◌, Some};
-ghost use Rattle.calls.specs.Refusal.{number, layer, place, refusal_line, carried, step_fault, examine_fault};
-ghost use Rattle.calls.specs.declared.fault.BenchFault.TheVariants.{TooShort as short};
-ghost use Rattle.calls.specs.declared.refusal.Refusal.TheVariants.{Bench, NoMemory};
+ghost use Rattle.calls.specs.Refusal.{number, layer, place, refusal_line, no_memory, examine_fault};
+ghost use Rattle.calls.specs.declared.fault.BenchFault.TheVariants.{Step as stuck, TooShort as short};
+ghost use Rattle.calls.specs.declared.refusal.Refusal.TheVariants.{Record, Bench};
 
 use crate::fault::BenchFault;
 use examine::examination::ExamineError;
@@ -10,28 +10,20 @@ use load::refusal as record;
 use run::StepFault;
 use std::alloc::AllocError;
 use std::fmt;
-use syntax::fault::TextFault;
-use task::fault::GraphFault;
 use writer::TooShort;
 
-// A refusal carries the fault of the layer that found it, whole.
+// A refusal carries the fault of the layer that found it, whole. A call that runs out of memory is refused as a record is.
 #[derive(Clone, Copy)]
 pub enum Refusal {
-    Text(TextFault),
-    Graph(GraphFault),
+    Record(record::Refusal),
     Bench(BenchFault),
-    NoMemory,
 }
 
 impl From<record::Refusal> for Refusal {
-    ghost from_gives = { λ e r. r ≡ carried e };
+    ghost from_gives = { λ e r. r ≡ Record e };
 
     fn from(refusal: record::Refusal) -> Refusal {
-        match refusal {
-            record::Refusal::Text(fault) => Refusal::Text(fault),
-            record::Refusal::Graph(fault) => Refusal::Graph(fault),
-            record::Refusal::NoMemory => Refusal::NoMemory,
-        }
+        Refusal::Record(refusal)
     }
 }
 
@@ -44,13 +36,10 @@ impl From<BenchFault> for Refusal {
 }
 
 impl From<StepFault> for Refusal {
-    ghost from_gives = { λ f r. r ≡ Bench (step_fault f) };
+    ghost from_gives = { λ f r. r ≡ Bench (stuck f) };
 
     fn from(fault: StepFault) -> Refusal {
-        match fault {
-            StepFault::NoEdge(block) => Refusal::Bench(BenchFault::NoEdge(block)),
-            StepFault::LimitSpent(header) => Refusal::Bench(BenchFault::LimitSpent(header)),
-        }
+        Refusal::Bench(BenchFault::Step(fault))
     }
 }
 
@@ -60,7 +49,7 @@ impl From<ExamineError> for Refusal {
     fn from(error: ExamineError) -> Refusal {
         match error {
             ExamineError::TooShort(needed) => Refusal::Bench(BenchFault::TooShort(needed)),
-            ExamineError::NoMemory => Refusal::NoMemory,
+            ExamineError::NoMemory => Refusal::Record(record::Refusal::NoMemory),
         }
     }
 }
@@ -74,10 +63,10 @@ impl From<TooShort> for Refusal {
 }
 
 impl From<AllocError> for Refusal {
-    ghost from_gives = { λ _ r. r ≡ NoMemory };
+    ghost from_gives = { λ _ r. r ≡ no_memory };
 
     fn from(_error: AllocError) -> Refusal {
-        Refusal::NoMemory
+        Refusal::Record(record::Refusal::NoMemory)
     }
 }
 
@@ -86,11 +75,10 @@ impl Refusal {
     pub fn number(&self) -> u32
         ensures { result ≡ number self.now }
     {
+        // As in the two below, what a case holds answers for itself.
         match self {
-            Refusal::Text(fault) => fault.number(),
-            Refusal::Graph(fault) => fault.number(),
+            Refusal::Record(refusal) => refusal.number(),
             Refusal::Bench(fault) => fault.number(),
-            Refusal::NoMemory => 0,
         }
     }
 
@@ -99,10 +87,8 @@ impl Refusal {
         ensures { result.now ≡ layer self.now }
     {
         match self {
-            Refusal::Text(_) => "text",
-            Refusal::Graph(_) => "graph",
+            Refusal::Record(refusal) => refusal.layer(),
             Refusal::Bench(_) => "bench",
-            Refusal::NoMemory => "memory",
         }
     }
 
@@ -111,10 +97,8 @@ impl Refusal {
         ensures { result ≡ place self.now }
     {
         match self {
-            Refusal::Text(fault) => fault.place,
-            Refusal::Graph(fault) => fault.place,
+            Refusal::Record(refusal) => refusal.place(),
             Refusal::Bench(fault) => fault.place(),
-            Refusal::NoMemory => 0,
         }
     }
 }
@@ -123,6 +107,7 @@ impl fmt::Display for Refusal {
     ghost output = { λ x. Some (refusal_line x) };
 
     fn fmt<W: fmt::Write>(&self, f: &mut fmt::Formatter<W>) -> fmt::Result {
+        // Not by `{refusal}` of a record's refusal: a match with one arm for each is longer than this line.
         let number = self.number();
         let layer = self.layer();
         let place = self.place();

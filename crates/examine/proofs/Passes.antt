@@ -1,5 +1,5 @@
 -- Settled passed blocks tell exactly which blocks every walk has passed.
-use Rattle.std.proofs.Common.{◌≡◌, ℕ, ◌^◌, ◌<◌, true, cond, ltb, ◌⊎◌, ◌↔◌, length, refl, inl, inr, arith, pow_pos}
+use Rattle.std.proofs.Common.{◌≡◌, ℕ, ◌^◌, ◌<◌, true, cond, ltb, ◌⊎◌, ◌↔◌, length, Some, None, Option, refl, inl, inr, arith, pow_pos}
 use lib.Bits.{bit_or}
 use Rattle.std.proofs.lemmas.Bool.{cases_eq, eqb-true, eq-eqb, ne_eqb, lt-ltb, and_parts, and_from}
 use Rattle.std.proofs.lemmas.Bool.Decides.{nat_tests}
@@ -11,22 +11,20 @@ use Rattle.facts.proofs.Exact.{exact}
 use Rattle.categories.specs.Category.{passed_by}
 use Rattle.categories.specs.Meaning.{Passing, PassedExactly}
 use Rattle.categories.proofs.Fits.{passed_exactly}
-use Rattle.passed_kind.specs.declared.PassedBlocks.{PassedBlocks}
-use Rattle.passed_kind.specs.declared.PassedBlocks.TheVariants.{Nothing, Passed}
 use Rattle.passed_kind.specs.Passed.{bit_of, in_set, passed_sure, passed_on, passed_kind}
 use Rattle.passed_kind.specs.Bits.{bit_small, bit_past, bit_added}
 use Rattle.passed_kind.specs.Laws.{passed_lawful, passed_distributing}
 
-none_sure : (n b : ℕ) → passed_sure n (Passed 0) b ≡ true → ⊥
+none_sure : (n b : ℕ) → passed_sure n (Some 0) b ≡ true → ⊥
 none_sure n b e =
     let p = and_parts (ltb b n) (in_set 0 b) e in
     let q = eqb-true (bit_of 0 b) 1 p.1 in
     let z = bit_past 0 b (pow_pos b) in
     omega arith
 
-one_sure : (n b d : ℕ) (x : PassedBlocks) → d < n → (passed_sure n (passed_on n b x) d ≡ true) ↔ ((d ≡ b) ⊎ (passed_sure n x d ≡ true))
-one_sure n b d Nothing h = (λ e. inr refl, λ e. refl)
-one_sure n b d (Passed set) h =
+one_sure : (n b d : ℕ) (x : Option ℕ) → d < n → (passed_sure n (passed_on n b x) d ≡ true) ↔ ((d ≡ b) ⊎ (passed_sure n x d ≡ true))
+one_sure n b d None h = (λ e. inr refl, λ e. refl)
+one_sure n b d (Some set) h =
     let after = cond (ltb b n) (bit_or set (2 ^ b)) set in
     let a = bit_added set n b d h in
     let s = bit_small set d in (
@@ -37,7 +35,7 @@ one_sure n b d (Passed set) h =
     )
 
 pub passing : (c : Contents) → Passing (passed_kind (length c.blocks)) c
-passing c = record { none = λ b h. none_sure (length c.blocks) b; one = λ b d x small h. one_sure (length c.blocks) b d x h }
+passing c = record { none = λ b h. none_sure (length c.blocks) b; one = λ b d x small h. one_sure (length c.blocks) b d x.set h }
 
 pub passed_test : (c : Contents) → InFormat c → Laws c → PassedExactly (passed_by (passed_kind (length c.blocks)) c) c
 passed_test c format laws =

@@ -35,8 +35,7 @@ use Rattle.figure.proofs.Agree.{cycles_agree, pairs_agree}
 use Rattle.figure.proofs.Pricing.{found_agree}
 use Rattle.examine.specs.declared.examination.Examination.{Examination}
 use Rattle.examine.specs.Findings.{Findings, each_fetch, findings, row_shown, shown}
-use Rattle.examine.specs.Examined.{Finds, Holds}
-use Rattle.examine.specs.Outcome.{Warranted}
+use Rattle.examine.specs.Examined.{Finds, Warranted, Accepted}
 use Rattle.examine.proofs.Categories.{categories_agree}
 use Rattle.examine.proofs.Passes.{passed_test}
 
@@ -47,13 +46,6 @@ found_of p f g cs = record { passes = p; figure = f; greatest = g; categories = 
 found_same : {p q f h : ℕ} {g k : Pair} {cs ds : List (List (List Category))} → p ≡ q → f ≡ h → g ≡ k → cs ≡ ds → found_of p f g cs ≡ found_of q h k ds
 found_same {p} {q} {f} {h} {g} {k} {cs} {ds} passes figure greatest categories =
     ap₂ (λ x y. found_of x y g cs) passes figure ∙ ap₂ (found_of q h) greatest categories
-
--- what an accepted examination shows
-pub record Accepted {K : Type 0} (kind : Geometry → Kind K) (fetched : Geometry → ℕ → K → K) (c : Contents) (e : Examination) : Type 0 where
-  pub finds : Finds kind fetched c e
-  pub holds : Holds kind fetched c
-  pub shows : shown c e ≡ findings kind fetched c
-  pub worth : Warranted kind fetched c
 
 module _ {K : Type 0} (takes : Geometry → Bool) (kind : Geometry → Kind K) (fetched : Geometry → ℕ → K → K)
     (everywhere : (g : Geometry) → in_range g ≡ true → takes g ≡ true) (lawful : (g : Geometry) → takes g ≡ true → Lawful (kind g)) where
@@ -87,9 +79,6 @@ module _ {K : Type 0} (takes : Geometry → Bool) (kind : Geometry → Kind K) (
           figure = theorem.finds cycles_lawful (cycle_costs c (task_marks kind fetched c)) c format sound;
           greatest = theorem.finds pairs_lawful (pair_costs c (task_marks kind fetched c)) c format sound;
         }
-
-    pub holds : (c : Contents) → InFormat c → Sound c → Holds kind fetched c
-    holds c format sound = let w = worth c format sound in record { means = w.means; kept = w.kept; covered = w.covered }
 
     -- the figures by a table are those by the marks that it has
     pub found_cycles : (c : Contents) (table : List (List Category)) (f : Figures) → InFormat c → Sound c → Agrees c table (task_marks kind fetched c) → FiguresBy c table f
@@ -131,7 +120,6 @@ module _ {K : Type 0} (takes : Geometry → Bool) (kind : Geometry → Kind K) (
         → Accepted kind fetched c e
     examined c e table format sound same passes agrees by = record {
       finds = finds c e table format sound same passes agrees by;
-      holds = holds c format sound;
       shows = shows c e table format sound same passes agrees by;
       worth = worth c format sound;
     }

@@ -1,4 +1,4 @@
--- What an examination finds of a task, and what it leaves in the working list.
+-- What an examination finds of a task, what that is worth, and what it leaves in the working list.
 use Rattle.std.specs.Prelude.{◌≡◌, ℕ, ◌+◌, ◌*◌, ◌<◌, ◌≤◌, List, length, Ok, Err, vec_items, Result}
 use Rattle.records.specs.declared.parts.Geometry.{Geometry}
 use Rattle.records.specs.Contents.{Contents}
@@ -6,6 +6,7 @@ use Rattle.task.specs.Graph.{total_fetches}
 use Rattle.facts.specs.Kind.{Kind}
 use Rattle.facts.specs.Settling.{task_states}
 use Rattle.passed_kind.specs.Passed.{passed_kind}
+use Rattle.longest.specs.Charge.{Greatest}
 use Rattle.categories.specs.Category.{passed_by}
 use Rattle.categories.specs.Costs.{cycle_costs, pair_costs, cycle_tally, pair_tally}
 use Rattle.categories.specs.Meaning.{Means, KeptAlways, CoveredAlways}
@@ -15,6 +16,7 @@ use Rattle.figure.specs.Figure.{Found}
 use Rattle.examine.specs.declared.examination.Examination.{Examination}
 use Rattle.examine.specs.declared.examination.ExamineError.{ExamineError}
 use Rattle.examine.specs.declared.examination.ExamineError.TheVariants.{TooShort, NoMemory}
+use Rattle.examine.specs.Findings.{findings, shown}
 
 module _ {K : Type 0} (kind : Geometry → Kind K) (fetched : Geometry → ℕ → K → K) (c : Contents) where
   -- the kind at the task's geometry
@@ -30,14 +32,24 @@ module _ {K : Type 0} (kind : Geometry → Kind K) (fetched : Geometry → ℕ �
     pub cycles : Found cycle_tally (cycle_costs c (task_marks kind fetched c)) c e.figures.cycles
     pub greatest : Found pair_tally (pair_costs c (task_marks kind fetched c)) c e.figures.greatest
 
-  -- What it is worth: the categories mean what they say, every walk keeps them, and its charge covers its run.
-  pub record Holds : Type 0 where
+  -- What the findings are worth: few passes settle the task, the categories mean what they say, every walk keeps them and is
+  -- charged for all that it runs, and the figures are the greatest charges of the walks within the limits.
+  pub record Warranted : Type 0 where
+    pub few : (findings kind fetched c).passes ≤ length c.blocks * kind_here.height + 1
     pub means : Means kind_here (fetched c.header.geometry) c (passed_by (passed_kind (length c.blocks)) c)
     pub kept : KeptAlways c (task_marks kind fetched c)
     pub covered : CoveredAlways c (task_marks kind fetched c)
+    pub figure : Greatest cycle_tally (cycle_costs c (task_marks kind fetched c)) c (findings kind fetched c).figure
+    pub greatest : Greatest pair_tally (pair_costs c (task_marks kind fetched c)) c (findings kind fetched c).greatest
+
+  -- What an examination answers: all that is found of the task, the same as one value, and what that is worth.
+  pub record Accepted (e : Examination) : Type 0 where
+    pub finds : Finds e
+    pub shows : shown c e ≡ findings kind fetched c
+    pub worth : Warranted
 
   -- The outcome, with the working list before and after: after an acceptance it may hold anything, after a refusal it is as it was.
   abbrev pub Examined : List K → Result Examination ExamineError → List K → Type 0
-  Examined before (Ok e) after = (2 * length c.blocks ≤ length before) × Finds e × Holds
+  Examined before (Ok e) after = (2 * length c.blocks ≤ length before) × Accepted e
   Examined before (Err (TooShort n)) after = (n ≡ 2 * length c.blocks) × (length before < n) × (after ≡ before)
   Examined before (Err NoMemory) after = (2 * length c.blocks ≤ length before) × (after ≡ before)

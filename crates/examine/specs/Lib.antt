@@ -1,3 +1,2 @@
 pub mod Findings
 pub mod Examined
-pub mod Outcome

@@ -11,13 +11,14 @@ pub struct Examination {
     // The passes that settling the whole task took.
     pub passes: u32,
     pub figures: Figures,
-    // A row for each fetch, block by block: its category at each level of its block, innermost first.
+    // A row for each fetch, block by block: its category at each level of its block, innermost first. A row is eight
+    // wide, since no block has more levels; the places past a block's levels mean nothing.
     pub table: Vec<[Category; 8]>,
 }
 
 #[derive(Clone, Copy)]
 pub enum ExamineError {
-    // The working list is shorter than this.
+    // The working list is shorter than this. Not `writer::TooShort`, which says the length of a text.
     TooShort(usize),
     NoMemory,
 }
@@ -34,6 +35,7 @@ impl<T: Drop> From<AllocFailed<T>> for ExamineError {
     ghost from_gives = { λ _ r. r ≡ NoMemory };
 
     fn from(_entry: AllocFailed<T>) -> ExamineError {
+        // For callers that push onto lists and answer this error; no function here pushes.
         ExamineError::NoMemory
     }
 }

@@ -1,11 +1,10 @@
 // The examination of a task with a kind of cache state.
 #![tactic(auto)]
 
-ghost use Rattle.std.specs.Prelude.{◌≡◌, ℕ, ◌*◌, ◌≤◌, length, IfOk, vec_len};
-ghost use Rattle.task.specs.Graph.{total_fetches};
+ghost use Rattle.std.specs.Prelude.{◌≡◌, ◌*◌, ◌≤◌, length, MatchResult};
 ghost use Rattle.task.specs.View.{task_contents};
-ghost use Rattle.examine.specs.Examined.{Examined};
-ghost use Rattle.examine.specs.Outcome.{Outcome};
+ghost use Rattle.examine.specs.declared.examination.ExamineError.TheVariants.{NoMemory};
+ghost use Rattle.examine.specs.Examined.{Accepted, Examined};
 
 pub mod examination;
 
@@ -13,22 +12,31 @@ use crate::examination::*;
 use cache_state::CacheState;
 use categories::category::Category;
 use facts::Facts;
-use figure::figures;
 use marks::mark;
 use marks::places::total_fetches;
 use passed_kind::PassedBlocks;
-use std::alloc::{AllocError, Global};
+use std::alloc::Global;
 use task::Task;
 
-// As many copies of a value as asked for.
-fn copies<T: Copy>(heap: Global, value: T, count: usize) -> Result<Vec<T>, AllocError>
-    ensures { IfOk result (λ v. vec_len v ≡ count) }
+// Marks the task and works out its figures. Where memory runs out the working list may hold anything.
+fn mark_and_price<K: CacheState>(
+    heap: Global,
+    task: &Task,
+    work: &mut [K],
+) -> Result<Examination, ExamineError>
+    requires { 2 * length (task_contents task.now).blocks ≤ length work.old }
+    ensures { MatchResult result (Accepted K.kind K.fetched (task_contents task.now)) (λ e. e ≡ NoMemory) }
 {
-    let mut all = Vec::new(heap);
-    for _ in 0..count {
-        all.push(value)?;
-    }
-    Ok(all)
+    let mut passed = vec![in heap; PassedBlocks { set: None }; task.record.blocks.len()]?;
+    let mut table = vec![in heap; [Category::AlwaysMiss; 8]; total_fetches(task)]?;
+    let passes = mark(task, work, &mut passed, &mut table).unwrap();
+    // The table has a row for each fetch, so only memory can be short.
+    let figures = figure::figures(heap, task, &table).map_err(|_| ExamineError::NoMemory)?;
+    Ok(Examination {
+        passes,
+        figures,
+        table,
+    })
 }
 
 // Marks the task with the kind `K` and works out its figures. The working list has to have two states for each block.
@@ -37,29 +45,17 @@ pub fn examine<K: CacheState>(
     task: &Task,
     work: &mut [K],
 ) -> Result<Examination, ExamineError>
-    ensures examined { Examined K.Facts.kind K.CacheState.fetched (task_contents task.now) work.old result work.new }
-    ensures outcome { Outcome K.Facts.kind K.CacheState.fetched (task_contents task.now) work.old result work.new }
+    ensures { Examined K.kind K.fetched (task_contents task.now) work.old result work.new }
 {
-    let blocks = task.record.blocks.len();
-    if work.len() < 2 * blocks {
-        return Err(ExamineError::TooShort(2 * blocks));
+    let needed = 2 * task.record.blocks.len();
+    if work.len() < needed {
+        return Err(ExamineError::TooShort(needed));
     }
-    // Memory may still run out when the marks are made: the working list can be put back as it was.
+    // A refused call leaves the working list as it was.
     let before = Vec::from_slice(heap, work)?;
-    let mut passed = copies(heap, PassedBlocks::Nothing, blocks)?;
-    let mut table = copies(heap, [Category::AlwaysMiss; 8], total_fetches(task))?;
-    let Some(passes) = mark(task, work, &mut passed, &mut table) else {
-        unreachable()
-    };
-    match figures(heap, task, table.as_slice()) {
-        Ok(figures) => Ok(Examination {
-            passes,
-            figures,
-            table,
-        }),
-        Err(_) => {
-            work.copy_from_slice(before.as_slice());
-            Err(ExamineError::NoMemory)
-        }
+    let found = mark_and_price(heap, task, work);
+    if found.is_err() {
+        work.copy_from_slice(&before);
     }
+    found
 }

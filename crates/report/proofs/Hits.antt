@@ -1,5 +1,5 @@
 -- With the slot kind a fetch is an always hit exactly if it hits on every walk, whatever the cache at the start.
-use Rattle.std.proofs.Common.{◌≡◌, ℕ, ◌<◌, Bool, true, false, ◌↔◌, length, get_or, sym, refl, ap, ◌∙◌, arith}
+use Rattle.std.proofs.Common.{◌≡◌, ℕ, ◌<◌, Bool, true, false, ◌↔◌, length, get_or, sym, refl, ap, ◌∙◌}
 use Rattle.records.specs.Contents.{Contents}
 use Rattle.records.specs.Layout.{InFormat}
 use Rattle.task.specs.Rules.{Sound}
@@ -17,9 +17,9 @@ use Rattle.report.specs.Reported.{slot_findings}
 -- an always hit is what the first test passes
 first_test : (sure miss hit : Bool) → (first_fitting sure miss hit ≡ AlwaysHit) ↔ (sure ≡ true)
 first_test true miss hit = (λ _. refl, λ _. refl)
-first_test false true hit = (λ e. absurd (let z : ◌≡◌ {A = ℕ} 0 1 = cc in omega arith), λ e. absurd (let z : ◌≡◌ {A = ℕ} 0 1 = cc in omega arith))
-first_test false false true = (λ e. absurd (let z : ◌≡◌ {A = ℕ} 0 1 = cc in omega arith), λ e. absurd (let z : ◌≡◌ {A = ℕ} 0 1 = cc in omega arith))
-first_test false false false = (λ e. absurd (let z : ◌≡◌ {A = ℕ} 0 1 = cc in omega arith), λ e. absurd (let z : ◌≡◌ {A = ℕ} 0 1 = cc in omega arith))
+first_test false true hit = (λ e. absurd (cc), λ e. absurd (cc))
+first_test false false true = (λ e. absurd (cc), λ e. absurd (cc))
+first_test false false false = (λ e. absurd (cc), λ e. absurd (cc))
 
 module _ (c : Contents) (format : InFormat c) (sound : Sound c) (b j : ℕ) (block : b < length c.blocks) (fetch : j < fetches_of c b) where
   -- at each loop around the block

@@ -16,7 +16,7 @@ use Rattle.categories.specs.Category.{Marks}
 use Rattle.categories.specs.Costs.{pays_first, pays_later, cycle_costs, cycle_tally}
 use Rattle.categories.proofs.Sizes.{entry_few, stay_few}
 use Rattle.slot_kind.specs.Slots.{slot_kind, slots_fetched}
-use Rattle.examine.specs.Outcome.{Warranted}
+use Rattle.examine.specs.Examined.{Warranted}
 use Rattle.listing.specs.Load.{load_of}
 use Rattle.listing.proofs.Loads.{twice, nearest}
 use Rattle.report.specs.Reported.{slot_findings, Worthy}

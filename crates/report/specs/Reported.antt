@@ -11,7 +11,7 @@ use Rattle.kinds.specs.SlotsExact.{HitsAlways}
 use Rattle.categories.specs.declared.category.Category.TheVariants.{AlwaysHit}
 use Rattle.categories.specs.Category.{fetches_of, levels_of}
 use Rattle.examine.specs.Findings.{Findings, findings, category_at}
-use Rattle.examine.specs.Outcome.{Warranted}
+use Rattle.examine.specs.Examined.{Warranted}
 use Rattle.listing.specs.Load.{load_of, Nearest}
 use Rattle.listing.specs.Text.{report_text}
 

@@ -9,7 +9,7 @@ use cache_state::CacheState;
 use calls::call::Call;
 use calls::fault::BenchFault;
 use calls::refusal::*;
-use std::mem;
+use run::OpenWalk;
 
 impl Bench {
     // Reads a record, and forgets the earlier task.
@@ -19,27 +19,22 @@ impl Bench {
     {
         self.admit(Call::Load)?;
         let task = load::load(self.heap, text)?;
-        self.hold(task);
+        self.stage = Stage::Loaded(task);
         Ok(())
     }
 
     // Examines the task with the kind `K` of cache state, in a working list of two states for each block, and answers the
     // passes.
     pub fn examine<K: CacheState>(&mut self, work: &mut [K]) -> Result<u32, Refusal>
-        ensures outcome { ExamineCall K.Facts.kind K.CacheState.fetched work.old (view self.old) result work.new (view self.new) }
+        ensures outcome { ExamineCall K.kind K.fetched work.old (view self.old) result work.new (view self.new) }
         ensures same { OnErr result (self.new ≡ self.old) }
     {
         self.admit(Call::Examine)?;
         let found = examine::examine(self.heap, self.task(), work)?;
         let passes = found.passes;
-        match mem::replace(&mut self.stage, Stage::Unused) {
-            Stage::Loaded(task) => self.stage = Stage::Examined(ExaminedTask::of(task, found)),
-            Stage::Examined(examined) => {
-                let ExaminedTask { task, found: _ } = examined;
-                self.stage = Stage::Examined(ExaminedTask::of(task, found));
-            }
-            _ => unreachable(),
-        }
+        let task = self.take_task();
+        let examined = ExaminedTask { task, found };
+        self.stage = Stage::Examined(examined);
         Ok(passes)
     }
 
@@ -49,20 +44,15 @@ impl Bench {
         ensures same { OnErr result (self.new ≡ self.old) }
     {
         self.admit(Call::Start)?;
-        let Stage::Examined(examined) = &self.stage else {
-            unreachable()
-        };
-        let slots = examined.task.record.header.geometry.slots as usize;
+        let task = self.task();
+        let slots = task.record.header.geometry.slots as usize;
         if cache.len() != slots {
             return Err(Refusal::Bench(BenchFault::StartLength(slots)));
         }
-        let walk = examined.walk_from(self.heap, cache)?;
-        match mem::replace(&mut self.stage, Stage::Unused) {
-            Stage::Examined(examined) => self.stage = Stage::Walking(WalkedTask::of(
-                examined, walk,
-            )),
-            _ => unreachable(),
-        }
+        let walk = OpenWalk::open(self.heap, task, cache)?;
+        let examined = self.take_examined();
+        let walked = WalkedTask { examined, walk };
+        self.stage = Stage::Walking(walked);
         Ok(())
     }
 
@@ -72,6 +62,8 @@ impl Bench {
         ensures same { OnErr result (self.new ≡ self.old) }
     {
         self.admit(Call::Step)?;
+        // Only a walking bench takes a step. No function hands the walk out by `&mut`: its contract would need a clause
+        // on the loan.
         let Stage::Walking(walked) = &mut self.stage else {
             unreachable()
         };
@@ -85,16 +77,7 @@ impl Bench {
         ensures same { OnErr result (self.new ≡ self.old) }
     {
         self.admit(Call::Close)?;
-        match mem::replace(&mut self.stage, Stage::Unused) {
-            Stage::Walking(walked) => {
-                let WalkedTask {
-                    examined,
-                    walk: _ended,
-                } = walked;
-                self.stage = Stage::Examined(examined);
-            }
-            _ => unreachable(),
-        }
+        self.stage = Stage::Examined(self.take_examined());
         Ok(())
     }
 }

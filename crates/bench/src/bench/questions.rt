@@ -5,7 +5,6 @@ ghost use Rattle.calls.specs.Outcomes.{WriteCall, ListCall};
 ghost use Rattle.bench.specs.View.{view};
 
 use super::Bench;
-use crate::stage::*;
 use calls::call::*;
 use calls::fault::*;
 use calls::refusal::*;
@@ -54,15 +53,6 @@ impl Bench {
         ensures { result ≡ stand_answer (view self.now) }
     {
         self.admit(Call::Stand)?;
-        let Stage::Walking(walked) = &self.stage else {
-            unreachable()
-        };
-        let walk = &walked.walk;
-        Ok(Standing {
-            block: walk.block,
-            cycles: walk.cycles,
-            misses: walk.misses,
-            fetches: walk.fetches,
-        })
+        Ok(Standing::from(self.walk()))
     }
 }

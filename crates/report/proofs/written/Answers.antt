@@ -17,9 +17,9 @@ fills text old nothing new needed end small m long l =
 pub returns : goal.returns
 returns c =
     let t = c.args.task.now in
-    let text = c.in-Ok.text in
+    let text = c.in_ok-text.text in
     let out = c.lay_report.new.out in
     with_items_is text out (omega (arith, c.lay_report.auto.out, c.deref_mut.ensures.len))
     ∙ fills (report_text (task_contents t) (shown (task_contents t) c.args.found.now)) c.deref_mut.result.now _ out c.lay_report-length.result c.lay_report.result
     (report_small (task_contents t) t.«record».ranges t.sound c.args.found.now) c.lay_report-length.ensures
-    (omega (arith, c.deref_mut.ensures.len, c.in-Ok.ensures.len)) c.lay_report.ensures
+    (omega (arith, c.deref_mut.ensures.len, c.in_ok-text.ensures.len)) c.lay_report.ensures

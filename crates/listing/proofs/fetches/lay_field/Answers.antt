@@ -1,5 +1,5 @@
-use Rattle.writer.proofs.Laying.{lays_then}
+use Rattle.writer.proofs.Laying.{appends_then}
 use Rattle.listing.proofs.fetches.lay_field.Goals as goal
 
 pub returns : goal.returns
-returns c = lays_then c.lay_number-end.ensures c.lay_bytes.ensures
+returns c = appends_then c.lay_number.ensures c.lay_bytes.ensures

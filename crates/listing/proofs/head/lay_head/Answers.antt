@@ -3,7 +3,7 @@ use Rattle.syntax.specs.Line.{line_text}
 use Rattle.records.specs.Contents.{Contents}
 use Rattle.task.specs.View.{task_contents}
 use Rattle.examine.specs.Findings.{Findings, shown}
-use Rattle.writer.proofs.Laying.{lays_then, lays_same}
+use Rattle.writer.proofs.Laying.{appends_then, appends_same}
 use Rattle.writer.proofs.Parts.{line-append}
 use Rattle.listing.specs.Load.{load_of}
 use Rattle.listing.specs.Text.{fits_text, head_text}
@@ -32,6 +32,6 @@ parts c f word load w l =
 pub returns : goal.returns
 returns c =
     let t = task_contents c.args.task.now in
-    lays_same (parts t (shown t c.args.found.now) c.as_bytes.result.now c.load_of.result (c.as_bytes.ensures.value ∙ c.fits.ensures) c.load_of.ensures)
-    (lays_then c.lay_line-end.ensures (lays_then c.lay_bytes-end.ensures (lays_then c.lay_bytes-end-2.ensures (lays_then c.lay_bytes-end-3.ensures
-    (lays_then c.lay_line-end-2.ensures (lays_then c.lay_line-end-3.ensures (lays_then c.lay_line-end-4.ensures c.lay_line.ensures)))))))
+    appends_same (parts t (shown t c.args.found.now) c.as_bytes.result.now c.load_of.result (c.as_bytes.ensures.value ∙ c.fits_word.ensures) c.load_of.ensures)
+    (appends_then c.lay_line.ensures (appends_then c.lay_bytes.ensures (appends_then c.lay_bytes-2.ensures (appends_then c.lay_bytes-3.ensures
+    (appends_then c.lay_line-2.ensures (appends_then c.lay_line-3.ensures (appends_then c.lay_line-4.ensures c.lay_line-5.ensures)))))))

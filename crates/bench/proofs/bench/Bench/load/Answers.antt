@@ -26,7 +26,7 @@ returns-in_err-task c =
 
 pub returns : goal.returns
 returns c = record {
-  outcome = load_done c.args.text.now (view c.args.self.now) (view c.hold.new.self) c.in_ok-task.task c.in_ok-admit.field-0 c.in_ok-admit.ensures c.hold.ensures
+  outcome = load_done c.args.text.now (view c.args.self.now) _ c.in_ok-task.task c.in_ok-admit.field-0 c.in_ok-admit.ensures refl
       c.in_ok-task.ensures.outcome;
   same = tt;
 }

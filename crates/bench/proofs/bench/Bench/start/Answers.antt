@@ -1,13 +1,21 @@
-use Rattle.std.proofs.Common.{sym, ap, ◌∙◌}
+use Rattle.std.proofs.Common.{sym, ◌∙◌}
 use Rattle.task.specs.View.{task_contents}
 use Rattle.run.specs.Open.{run_of}
-use Rattle.calls.specs.View.{task_of}
-use Rattle.bench.specs.View.{stage_view}
-use Rattle.bench.proofs.Changes.{opened}
+use Rattle.examine.specs.Findings.{shown}
+use Rattle.bench.specs.View.{view}
+use Rattle.bench.proofs.Changes.{opened, start_done}
 use Rattle.bench.proofs.bench.Bench.start.Goals as goal
 
-pub of-requires : goal.of-requires
-of-requires c =
-    let at = sym c.in-Examined.is ∙ sym c.replace.ensures.value ∙ c.in-Examined-replace.is in
-    opened (task_contents c.in-Examined.examined.task) (task_contents c.in-Examined-replace.examined.task) (run_of c.in_ok-walk.walk) c.args.cache.now (ap (λ s. task_of (stage_view s)) at)
-    c.in-Examined-replace.examined.task.«record».ranges c.in_ok-walk.ensures c.if-cache-slots.false
+pub invariant_of-walked : goal.invariant_of-walked
+invariant_of-walked c =
+    let x = c.take_examined-examined.result in
+    record {
+      «open» = opened (task_contents c.task-task.result.now) (task_contents x.task) (run_of c.in_ok-walk.walk) c.args.cache.now (c.task-task.ensures ∙ sym c.take_examined-examined.ensures.task)
+          x.task.«record».ranges c.in_ok-walk.ensures c.if-cache-slots.false;
+    }
+
+pub returns-clause-outcome : goal.returns-clause-outcome
+returns-clause-outcome c =
+    let x = c.take_examined-examined.result in
+    start_done c.args.cache.now (view c.args.self.now) (task_contents c.task-task.result.now) (task_contents x.task) (shown (task_contents x.task) x.found) (run_of c.in_ok-walk.walk)
+    c.in_ok-admit.field-0 c.task-task.ensures c.take_examined-examined.ensures.task c.take_examined-examined.ensures.found c.in_ok-admit.ensures c.if-cache-slots.false c.in_ok-walk.ensures
