@@ -6,6 +6,10 @@ mod model;
 #[cfg(test)]
 mod pair;
 #[cfg(test)]
+mod plan;
+#[cfg(test)]
 mod samples;
 #[cfg(test)]
 mod tests;
+#[cfg(test)]
+mod walk;

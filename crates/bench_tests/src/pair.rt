@@ -1,6 +1,7 @@
 // A bench and the model, which take the same calls and have to answer alike.
 use crate::model::*;
 use crate::samples::*;
+use crate::walk::*;
 use bench::bench::Bench;
 use cache_state::CacheState;
 use calls::refusal::Refusal;
@@ -25,39 +26,22 @@ fn verdict<T: Drop>(answer: Result<T, Refusal>) -> Verdict {
 // Whether an accepted call has laid the text at the front of the buffer, and whether all else is as it was handed in.
 fn is_laid(answer: Verdict, buffer: &[u8], text: &[u8]) -> bool {
     let front = if answer.is_ok() { text } else { b"" };
-    let Some(rest) = buffer.strip_prefix(front) else {
-        return false;
-    };
-    for byte in rest {
-        if *byte != FILLER {
-            return false;
-        }
-    }
-    true
+    buffer
+        .strip_prefix(front)
+        .is_some_and(|rest| rest.iter().all(|byte| *byte == FILLER))
 }
 
-fn write(
+// Makes a call that lays the text into a buffer of so many bytes.
+fn lay<F: FnOnce(&mut [u8]) -> Result<usize, Refusal>>(
     rt: &(impl Abort + AllocGlobal),
-    bench: &Bench,
     text: &[u8],
     room: usize,
-) -> Result<Verdict, Fail> {
+    call: F,
+) -> Result<Verdict, Fail>
+    requires { F.IsAlwaysCallable call }
+{
     let mut buffer = vec![in rt.alloc(); FILLER; room]?;
-    let answer = bench.write(&mut buffer);
-    assert!(rt; answer.unwrap_or(text.len()) == text.len());
-    assert!(rt; is_laid(verdict(answer), buffer.as_slice(), text));
-    Ok(verdict(answer))
-}
-
-fn list(
-    rt: &(impl Abort + AllocGlobal),
-    bench: &Bench,
-    text: &[u8],
-    block: usize,
-    room: usize,
-) -> Result<Verdict, Fail> {
-    let mut buffer = vec![in rt.alloc(); FILLER; room]?;
-    let answer = bench.list(block, &mut buffer);
+    let answer = call(&mut buffer);
     assert!(rt; answer.unwrap_or(text.len()) == text.len());
     assert!(rt; is_laid(verdict(answer), buffer.as_slice(), text));
     Ok(verdict(answer))
@@ -70,17 +54,14 @@ fn examine<K: CacheState>(
     passes: u32,
     states: usize,
 ) -> Result<Verdict, Fail> {
+    // Any geometry will do: no answer depends on the states that are handed in, and here they are only compared.
     let geometry = Geometry { line: 4, slots: 64 };
     let open = K::open(geometry);
-    let mut work = Vec::new(rt.alloc());
-    for _ in 0..states {
-        work.push(open)?;
-    }
+    let mut work = vec![in rt.alloc(); open; states]?;
     let answer = bench.examine(&mut work);
-    let mut kept = true;
-    for state in work.as_slice() {
-        kept = kept && state.rank(geometry) == open.rank(geometry);
-    }
+    let kept = work
+        .iter()
+        .all(|state| state.rank(geometry) == open.rank(geometry));
     assert!(rt; answer.is_ok() || kept);
     assert!(rt; answer.unwrap_or(passes) == passes);
     Ok(verdict(answer))
@@ -89,14 +70,14 @@ fn examine<K: CacheState>(
 fn ask(
     rt: &impl Abort,
     bench: &Bench,
-    letters: &str,
+    found: Found,
     block: usize,
     fetch: usize,
     level: usize,
 ) -> Result<Verdict, Fail> {
     let answer = bench.ask(block, u32::try_from(fetch)?, level);
     if let Ok(category) = answer {
-        assert_eq!(rt; category.letters(), letters);
+        assert_eq!(rt; category.letters(), found.category(block, fetch, level));
     }
     Ok(verdict(answer))
 }
@@ -133,34 +114,24 @@ fn make(
     model: &Model,
     call: Call,
 ) -> Result<Verdict, Fail> {
+    let found = model.found();
     match call {
-        Call::Load(number) => Ok(verdict(bench.load(record(number).text.as_bytes()))),
-        Call::Examine(Kind::Slot, states) => {
-            examine::<SlotState>(rt, bench, model.found().passes, states)
-        }
-        Call::Examine(Kind::Last, states) => {
-            examine::<LastLine>(rt, bench, model.found().passes, states)
-        }
+        Call::Load(record) => Ok(verdict(bench.load(record.sample().text.as_bytes()))),
+        Call::Examine(Kind::Slot, states) => examine::<SlotState>(rt, bench, found.passes, states),
+        Call::Examine(Kind::Last, states) => examine::<LastLine>(rt, bench, found.passes, states),
         Call::Start(slots, seed) => {
             let cache = starting_cache(rt.alloc(), slots, seed)?;
             Ok(verdict(bench.start(cache.as_slice())))
         }
         Call::Step(block) => Ok(verdict(bench.step(block))),
         Call::Close => Ok(verdict(bench.close())),
-        Call::Write(room) => write(rt, bench, model.written(), room),
-        Call::Figure => figure(rt, bench, model.found()),
-        Call::Ask(block, fetch, level) => {
-            ask(
-                rt,
-                bench,
-                model.category(block, fetch, level),
-                block,
-                fetch,
-                level,
-            )
+        Call::Write(room) => lay(rt, model.written(), room, |out| bench.write(out)),
+        Call::Figure => figure(rt, bench, found),
+        Call::Ask(block, fetch, level) => ask(rt, bench, found, block, fetch, level),
+        Call::List(block, room) => {
+            lay(rt, found.listed(block), room, |out| bench.list(block, out))
         }
-        Call::List(block, room) => list(rt, bench, model.listed(block), block, room),
-        Call::Stand => stand(rt, bench, &model.walk, model.found()),
+        Call::Stand => stand(rt, bench, &model.walk, found),
     }
 }
 

@@ -4,6 +4,7 @@ use crate::pair::take;
 use crate::samples::*;
 use bench::bench::Bench;
 use std::alloc::AllocGlobal;
+use std::collections::BTreeMap;
 use std::process::Abort;
 use std::test::*;
 
@@ -19,7 +20,7 @@ fn follow(rt: &(impl Abort + AllocGlobal), list: &[(Call, Verdict)]) -> Result<B
 
 // The single loop, round by round; seed 4095 leaves every slot empty.
 const TEN_ROUNDS: &[(Call, Verdict)] = &[
-    (Call::Load(0), Ok(())),
+    (Call::Load(Record::SingleLoop), Ok(())),
     (Call::Examine(Kind::Slot, 6), Ok(())),
     (Call::Start(4, 4095), Ok(())),
     (Call::Step(2), Err((17, 2))),
@@ -83,8 +84,8 @@ const WRONG_STAGE: &[(Call, Verdict)] = &[
     (Call::Ask(0, 0, 0), Err((15, 0))),
     (Call::List(0, 100), Err((15, 0))),
     (Call::Stand, Err((15, 0))),
-    (Call::Load(0), Ok(())),
-    (Call::Load(0), Ok(())),
+    (Call::Load(Record::SingleLoop), Ok(())),
+    (Call::Load(Record::SingleLoop), Ok(())),
     (Call::Start(4, 0), Err((15, 1))),
     (Call::Step(1), Err((15, 1))),
     (Call::Close, Err((15, 1))),
@@ -100,8 +101,8 @@ const WRONG_STAGE: &[(Call, Verdict)] = &[
     (Call::Stand, Err((15, 2))),
     (Call::Write(400), Ok(())),
     (Call::Start(4, 0), Ok(())),
-    (Call::Load(0), Err((15, 3))),
-    (Call::Load(2), Err((15, 3))),
+    (Call::Load(Record::SingleLoop), Err((15, 3))),
+    (Call::Load(Record::ThreeSlots), Err((15, 3))),
     (Call::Examine(Kind::Slot, 6), Err((15, 3))),
     (Call::Examine(Kind::Last, 0), Err((15, 3))),
     (Call::Start(4, 0), Err((15, 3))),
@@ -112,14 +113,14 @@ const WRONG_STAGE: &[(Call, Verdict)] = &[
     (Call::List(0, 100), Ok(())),
     (Call::Close, Ok(())),
     (Call::Close, Err((15, 2))),
-    (Call::Load(0), Ok(())),
+    (Call::Load(Record::SingleLoop), Ok(())),
     (Call::Figure, Err((15, 1))),
 ];
 
 // The last that is accepted and the first that is refused. The single loop has 4 slots, 3 blocks and a text of 145 bytes;
 // block 1 has 4 fetches, 2 levels and lines of 66 bytes.
 const BOTH_SIDES: &[(Call, Verdict)] = &[
-    (Call::Load(0), Ok(())),
+    (Call::Load(Record::SingleLoop), Ok(())),
     (Call::Examine(Kind::Last, 5), Err((20, 6))),
     (Call::Examine(Kind::Slot, 5), Err((20, 6))),
     (Call::Examine(Kind::Slot, 6), Ok(())),
@@ -148,26 +149,26 @@ const BOTH_SIDES: &[(Call, Verdict)] = &[
 
 // A refused record leaves the earlier one, with what was found of it.
 const BAD_RECORDS: &[(Call, Verdict)] = &[
-    (Call::Load(2), Err((4, 2))),
+    (Call::Load(Record::ThreeSlots), Err((4, 2))),
     (Call::Write(400), Err((15, 0))),
-    (Call::Load(0), Ok(())),
-    (Call::Load(3), Err((5, 0))),
+    (Call::Load(Record::SingleLoop), Ok(())),
+    (Call::Load(Record::BackwardLoop), Err((5, 0))),
     (Call::Write(400), Ok(())),
     (Call::Examine(Kind::Slot, 6), Ok(())),
-    (Call::Load(2), Err((4, 2))),
-    (Call::Load(3), Err((5, 0))),
+    (Call::Load(Record::ThreeSlots), Err((4, 2))),
+    (Call::Load(Record::BackwardLoop), Err((5, 0))),
     (Call::Write(400), Ok(())),
     (Call::Figure, Ok(())),
     (Call::Ask(1, 2, 0), Ok(())),
     (Call::List(1, 100), Ok(())),
     (Call::Start(4, 0), Ok(())),
-    (Call::Load(2), Err((15, 3))),
+    (Call::Load(Record::ThreeSlots), Err((15, 3))),
     (Call::Stand, Ok(())),
 ];
 
 // A stay ends where the walk leaves its loop: the next has all its rounds again, and the loop around goes on with its own.
 const NESTED_ROUNDS: &[(Call, Verdict)] = &[
-    (Call::Load(4), Ok(())),
+    (Call::Load(Record::NestedLoops), Ok(())),
     (Call::Examine(Kind::Slot, 12), Ok(())),
     (Call::Start(2, 0), Ok(())),
     (Call::Step(1), Ok(())),
@@ -211,18 +212,28 @@ impl Lots {
         ((self.0 >> 33) as usize).checked_rem(most).unwrap_or(0)
     }
 
+    fn record(&mut self) -> Record {
+        match self.below(6) {
+            0 => Record::SingleLoop,
+            1 => Record::SharedSlot,
+            2 => Record::ThreeSlots,
+            3 => Record::BackwardLoop,
+            4 => Record::NestedLoops,
+            _ => Record::TightLoops,
+        }
+    }
+
     fn kind(&mut self) -> Kind {
-        if self.below(2) == 0 {
-            Kind::Slot
-        } else {
-            Kind::Last
+        match self.below(2) {
+            0 => Kind::Slot,
+            _ => Kind::Last,
         }
     }
 
     // A call, mostly a step, and then mostly to a block next to the walk's.
     fn call(&mut self, model: &Model) -> Call {
         match self.below(40) {
-            0 => Call::Load(self.below(6)),
+            0 => Call::Load(self.record()),
             1 | 2 => Call::Examine(self.kind(), self.below(16)),
             3 => Call::Start(self.below(6), self.below(4096)),
             4..=9 => Call::Start(model.plan.slots, self.below(4096)),
@@ -240,31 +251,29 @@ impl Lots {
 }
 
 // Takes calls drawn by lot, and counts how often each number of refusal was answered; 0 stands for none.
-fn follow_lots(rt: &(impl Abort + AllocGlobal), seen: &mut [usize; 21]) -> Result<(), Fail> {
+fn follow_lots(rt: &(impl Abort + AllocGlobal)) -> Result<BTreeMap<u32, u32>, Fail> {
     let mut bench = Bench::new(rt.alloc());
     let mut model = Model::new(rt.alloc())?;
     let mut lots = Lots(2026);
+    let mut seen = BTreeMap::new(rt.alloc());
     for _ in 0..20000 {
         let call = lots.call(&model);
         let number = match take(rt, &mut bench, &mut model, call)? {
             Ok(()) => 0,
             Err((number, _)) => number,
         };
-        if number < 21 {
-            let times = seen[number as usize];
-            seen[number as usize] = times.saturating_add(1);
-        }
+        let times: &mut u32 = seen.entry(number)?.or_insert(0);
+        *times = times.saturating_add(1);
     }
-    Ok(())
+    Ok(seen)
 }
 
 #[test]
 fn calls_are_answered_as_the_model_answers(rt: HostRuntime) -> Result<(), Fail> {
-    let mut seen = [0; 21];
-    follow_lots(&rt, &mut seen)?;
-    for (number, times) in seen.iter().enumerate() {
-        let drawn = matches!(number, 0 | 4 | 5 | 15..=20);
-        assert!(rt; !drawn || *times > 9, "a refusal was hardly met");
+    let seen = follow_lots(&rt)?;
+    for number in [0, 4, 5, 15, 16, 17, 18, 19, 20] {
+        let often = seen.get(&number).is_some_and(|times| *times > 9);
+        assert!(rt; often, "a refusal was hardly met");
     }
     Ok(())
 }

@@ -2,9 +2,11 @@
 #![tactic(auto)]
 
 mod answers;
-mod commands;
+mod command;
+mod session;
 
-use crate::commands::obey;
+use crate::command::Command;
+use crate::session::obey;
 use anyhow::anyhow;
 use bench::bench::Bench;
 use std::env;
@@ -36,40 +38,44 @@ then 1.
 Options:
     --help    print this text";
 
-// Takes the calls one after the other, and says whether every line was one.
-fn take_calls(rt: &HostRuntime) -> anyhow::Result<bool> {
+// Takes the call of a line, if it names one.
+fn take_call(rt: &HostRuntime, bench: &mut Bench, line: &str) -> anyhow::Result<()> {
+    match Command::read(rt.alloc(), line)? {
+        Some(command) => obey(rt, bench, command),
+        None => Ok(()),
+    }
+}
+
+// Takes the calls one after the other. The status says whether every line was one.
+fn take_calls(rt: &HostRuntime) -> anyhow::Result<ExitCode> {
     let mut bench = Bench::new(rt.alloc());
-    let mut good = true;
-    let mut number = 0u64;
-    for line in rt.lines(rt.alloc()) {
-        let line = line?;
-        number = number.saturating_add(1);
-        if let Err(error) = obey(rt, &mut bench, line.as_str()) {
+    let mut status = ExitCode::SUCCESS;
+    // A loop: a line that is no call is told on the way, and the lines after it are still taken.
+    for (number, line) in (1u64..u64::MAX).zip(rt.lines(rt.alloc())) {
+        if let Err(error) = take_call(rt, &mut bench, line?.as_str()) {
             eprintln!(rt; "lanebench: line {number}: {error}")?;
-            good = false;
+            status = ExitCode::FAILURE;
         }
     }
-    Ok(good)
+    Ok(status)
 }
 
-fn run(rt: &HostRuntime) -> anyhow::Result<bool> {
-    for arg in env::args(rt)?.skip(1) {
-        if arg.as_str() == "--help" {
+// Does what the arguments ask for.
+fn run(rt: &HostRuntime) -> anyhow::Result<ExitCode> {
+    match env::args(rt)?.nth(1) {
+        None => take_calls(rt),
+        Some(arg) if arg.as_str() == "--help" => {
             println!(rt; "{USAGE}")?;
-            return Ok(true);
+            Ok(ExitCode::SUCCESS)
         }
-        return Err(anyhow!("unknown argument '{arg}'; try --help"));
+        Some(arg) => Err(anyhow!("unknown argument '{arg}'; try --help")),
     }
-    take_calls(rt)
 }
 
+// As in lanetime: a crate for these four lines would be longer than they are.
 fn main(rt: HostRuntime) -> anyhow::Result<ExitCode> {
-    match run(&rt) {
-        Ok(true) => Ok(ExitCode::SUCCESS),
-        Ok(false) => Ok(ExitCode::FAILURE),
-        Err(error) => {
-            eprintln!(rt; "lanebench: {error}")?;
-            Ok(ExitCode::FAILURE)
-        }
-    }
+    run(&rt).or_else(|error| {
+        eprintln!(rt; "lanebench: {error}")?;
+        Ok(ExitCode::FAILURE)
+    })
 }

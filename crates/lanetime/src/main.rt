@@ -20,65 +20,63 @@ docs/REFUSALS.md the refusals.
 Options:
     --help    print this text";
 
-// One byte more than the longest record: enough to see that a text is too long.
-const MOST: u64 = 16385;
+// The bytes of the longest record.
+const LONGEST: usize = 16384;
 
 // What the arguments ask for.
 #[derive(Clone, Copy)]
 enum Job {
     Help,
-    Report,
+    WriteBack,
 }
 
 fn requested(rt: &HostRuntime) -> anyhow::Result<Job> {
-    let mut job = Job::Report;
-    for arg in env::args(rt)?.skip(1) {
-        if arg.as_str() == "--help" {
-            job = Job::Help;
-        } else {
-            return Err(anyhow!("unknown argument '{arg}'; try --help"));
-        }
-    }
-    Ok(job)
+    env::args(rt)?
+        .skip(1)
+        .try_fold(Job::WriteBack, |_, arg| match arg.as_str() {
+            "--help" => Ok(Job::Help),
+            _ => Err(anyhow!("unknown argument '{arg}'; try --help")),
+        })
 }
 
-// Prints what the record on standard input comes to, and says whether it was accepted.
-fn report(rt: &HostRuntime) -> anyhow::Result<bool> {
+// Writes the record on standard input back, or prints why it is refused. The status says whether it was accepted.
+fn write_back(rt: &HostRuntime) -> anyhow::Result<ExitCode> {
     let mut text = Vec::new(rt.alloc());
-    rt.stdin().take(MOST).read_to_end(&mut text)?;
-    let task = match load(rt.alloc(), text.as_slice()) {
+    // One byte more is enough to see that a text is too long.
+    let most = LONGEST as u64 + 1;
+    rt.stdin().take(most).read_to_end(&mut text)?;
+    let task = match load(rt.alloc(), &text) {
         Ok(task) => task,
+        // A refusal is the answer that was asked for: once it is printed, only the status is left to tell.
         Err(refusal) => {
             println!(rt; "{refusal}")?;
-            return Ok(false);
+            return Ok(ExitCode::FAILURE);
         }
     };
-    let mut out = vec![in rt.alloc(); 0u8; 16384]?;
+    let mut out = vec![in rt.alloc(); 0u8; LONGEST]?;
+    // Not by `?`: a buffer that is too short is no error of `anyhow`, and no record that was read needs a longer one.
     let Ok(length) = writer::write(&task.record, &mut out) else {
         return Err(anyhow!("the record does not fit the longest text"));
     };
-    rt.stdout().write_all(&out[0..length])?;
-    Ok(true)
+    rt.stdout().write_all(&out[..length])?;
+    Ok(ExitCode::SUCCESS)
 }
 
-fn run(rt: &HostRuntime) -> anyhow::Result<bool> {
+// Does what the arguments ask for.
+fn run(rt: &HostRuntime) -> anyhow::Result<ExitCode> {
     match requested(rt)? {
         Job::Help => {
             println!(rt; "{USAGE}")?;
-            Ok(true)
+            Ok(ExitCode::SUCCESS)
         }
-        Job::Report => report(rt),
+        Job::WriteBack => write_back(rt),
     }
 }
 
+// As in lanebench: a crate for these four lines would be longer than they are.
 fn main(rt: HostRuntime) -> anyhow::Result<ExitCode> {
-    match run(&rt) {
-        Ok(true) => Ok(ExitCode::SUCCESS),
-        // A refusal is the answer that was asked for: it has been printed, and only the status is left to tell.
-        Ok(false) => Ok(ExitCode::FAILURE),
-        Err(error) => {
-            eprintln!(rt; "lanetime: {error}")?;
-            Ok(ExitCode::FAILURE)
-        }
-    }
+    run(&rt).or_else(|error| {
+        eprintln!(rt; "lanetime: {error}")?;
+        Ok(ExitCode::FAILURE)
+    })
 }

@@ -1,22 +1,18 @@
-// Loads every stored record and compares what comes of it with what is stored: the same refusal, or the same bytes written back
-// and the same findings of an examination with each kind of cache state.
+// Loads every stored record and compares what comes of it with what is stored: the same refusal, or the same bytes
+// written back and the same findings of an examination with each kind of cache state.
 #![tactic(auto)]
 
 use cache_state::CacheState;
-use examine::examination::*;
 use examine::examine;
-use facts::Facts;
 use last_line_kind::LastLine;
+use listing::lay_report;
 use load::load;
-use records::parts::Geometry;
 use slot_kind::SlotState;
 use std::fs;
 use task::Task;
 
-mod report;
-
 // How a record came out.
-#[derive(Clone, Copy)]
+#[derive(Clone, Copy, PartialEq, Eq)]
 enum Outcome {
     WrittenBack,
     Examined,
@@ -26,11 +22,8 @@ enum Outcome {
 
 // Whether the task's record is written back as `record`.
 fn is_written_back(rt: &HostRuntime, task: &Task, record: &[u8]) -> anyhow::Result<bool> {
-    let mut out = vec![in rt.alloc(); 0u8; 16384]?;
-    match writer::write(&task.record, &mut out) {
-        Ok(length) => Ok(&out[0..length] == record),
-        Err(_) => Ok(false),
-    }
+    let mut out = vec![in rt.alloc(); 0u8; record.len()]?;
+    Ok(writer::write(&task.record, &mut out).is_ok_and(|length| &out[..length] == record))
 }
 
 // Whether the examination with the kind `K` finds what is stored under this name.
@@ -40,21 +33,22 @@ fn finds_stored<K: CacheState>(
     name: &str,
     kind: &str,
 ) -> anyhow::Result<bool> {
-    let mut work = Vec::new(rt.alloc());
-    for _ in 0..task.record.blocks.len() {
-        work.push(K::nothing(task.record.header.geometry))?;
-        work.push(K::nothing(task.record.header.geometry))?;
-    }
+    let nothing = K::nothing(task.record.header.geometry);
+    let mut work = vec![in rt.alloc(); nothing; 2 * task.record.blocks.len()]?;
     let Ok(found) = examine(rt.alloc(), task, &mut work) else {
         return Ok(false);
     };
-    let text = report::report(rt.alloc(), task, &found)?;
+    // Measured and laid here, as `report` does within: the crate hands out the report of a text, with the slot kind
+    // alone. Laid into an empty buffer, the report only tells how long it is.
+    let length = lay_report(&mut [], 0, task, &found);
+    let mut report = vec![in rt.alloc(); 0u8; length]?;
+    lay_report(&mut report, 0, task, &found);
     let path = format!(in rt.alloc(); "{name}.{kind}")?;
     let stored = fs::read(rt, path.as_str())?;
-    Ok(text.as_bytes() == stored.as_slice())
+    Ok(report == stored)
 }
 
-// A record that is accepted: only some have findings stored.
+// How a record that is accepted came out: only some have findings stored.
 fn compare_task(
     rt: &HostRuntime,
     task: &Task,
@@ -77,13 +71,14 @@ fn compare_task(
     }
 }
 
+// How the record that is stored under this name came out.
 fn compare(rt: &HostRuntime, name: &str) -> anyhow::Result<Outcome> {
     let record_path = format!(in rt.alloc(); "{name}.rec")?;
     let outcome_path = format!(in rt.alloc(); "{name}.out")?;
     let record = fs::read(rt, record_path.as_str())?;
     let expected = fs::read(rt, outcome_path.as_str())?;
-    match load(rt.alloc(), record.as_slice()) {
-        Ok(task) => compare_task(rt, &task, record.as_slice(), expected.as_slice(), name),
+    match load(rt.alloc(), &record) {
+        Ok(task) => compare_task(rt, &task, &record, &expected, name),
         Err(refusal) => {
             let line = format!(in rt.alloc(); "{refusal}\n")?;
             Ok(if line.as_bytes() == expected.as_slice() {
@@ -95,23 +90,23 @@ fn compare(rt: &HostRuntime, name: &str) -> anyhow::Result<Outcome> {
     }
 }
 
+// Compares every record of the index, and prints how many came out in which way.
 fn run(rt: &HostRuntime) -> anyhow::Result<()> {
     let index = fs::read_to_string(rt, "index")?;
-    let mut written_back = 0u32;
-    let mut examined = 0u32;
-    let mut refused = 0u32;
-    let mut wrong = 0u32;
+    let mut outcomes = Vec::new(rt.alloc());
+    // A loop: it prints on the way, and can fail at each name.
     for name in index.lines() {
-        match compare(rt, name)? {
-            Outcome::WrittenBack => written_back = written_back.saturating_add(1),
-            Outcome::Examined => examined = examined.saturating_add(1),
-            Outcome::Refused => refused = refused.saturating_add(1),
-            Outcome::Wrong => {
-                wrong = wrong.saturating_add(1);
-                println!(rt; "wrong: {name}")?;
-            }
+        let outcome = compare(rt, name)?;
+        if outcome == Outcome::Wrong {
+            println!(rt; "wrong: {name}")?;
         }
+        outcomes.push(outcome)?;
     }
+    let count = |wanted| outcomes.iter().filter(|came| **came == wanted).count();
+    let written_back = count(Outcome::WrittenBack);
+    let examined = count(Outcome::Examined);
+    let refused = count(Outcome::Refused);
+    let wrong = count(Outcome::Wrong);
     println!(rt;
         "written back: {written_back}\nwritten back, and examined with both kinds: {examined}\nrefused: {refused}\nwrong: {wrong}"
     )?;
