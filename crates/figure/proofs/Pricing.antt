@@ -1,7 +1,8 @@
 -- Lists of costs, and the search over them.
 use Rattle.std.proofs.Common.{◌≡◌, ℕ, ◌^◌, ◌<◌, List, map, length, get_or, Option, Some, None, sym, ap, ◌∙◌, subst, zero-add, arith, rules}
-use Rattle.std.specs.List.{range_with_len}
+use Rattle.std.specs.List.{range_with_len, zip, All}
 use Rattle.std.specs.Option.{IsSome}
+use Rattle.std.proofs.lemmas.List.{get_or-map, length-map}
 use Rattle.std.proofs.lemmas.List.Elements.{All-from_get_or}
 use Rattle.std.proofs.lemmas.List.FromFn.{length-map-range_with_len, get_or-map-range_with_len}
 use Rattle.records.specs.declared.parts.Header.{Header}
@@ -16,68 +17,89 @@ use Rattle.tally.specs.Kinds.{cycles_size, pair_size}
 use Rattle.longest.specs.declared.ByRound.{ByRound}
 use Rattle.longest.specs.declared.Cell.{Cell}
 use Rattle.longest.specs.Charge.{Costs, Greatest}
-use Rattle.longest.specs.Search.{by_round, none_yet, figure_of}
+use Rattle.longest.specs.Search.{by_round, figure_of}
 use Rattle.longest.specs.Sizes.{Cheap}
 use Rattle.longest.proofs.Theorem.{finds}
 use Rattle.categories.specs.Category.{Marks}
 use Rattle.categories.specs.Costs.{pays_first, pays_later, paying, charged_at, cycle_costs, pair_costs}
 use Rattle.categories.proofs.Sizes.{cycle_costs_small, pair_costs_small}
-use Rattle.search.specs.Outcome.{cost_at, costs_of, Fits, BothFit, CostList, Accepted, Answers}
+use Rattle.search.specs.Outcome.{costs_of, Fits, CostList, Accepted, Answers}
 use Rattle.figure.specs.Figure.{Found}
-use Rattle.figure.specs.Price.{count_at, priced}
+use Rattle.figure.specs.Price.{count_at, block_priced, priced}
 use Rattle.figure.specs.Row.{paying_both}
 use Rattle.figure.proofs.Agree.{CostsAgree, figure_agree}
+use Rattle.figure.proofs.Lists.{map_same, zip_places, zip_each}
 
-cost_list : {X : Type 0} (Fit : X → Type 0) (d : X) (f : ℕ → X) (n : ℕ) (xs : List X) → xs ≡ map f (range_with_len 0 n)
-    → ((k : ℕ) → k < n → Fit (f k)) → CostList Fit n xs
-cost_list Fit d f n xs xs-are small =
+cost_list : {T : Type 0} (m : Ops T) (size : T → ℕ) (f : ℕ → T) (n : ℕ) (xs : List T) → xs ≡ map f (range_with_len 0 n)
+    → ((k : ℕ) → k < n → Fits size (f k)) → CostList size n xs
+cost_list m size f n xs xs-are small =
     let long : length xs ≡ n = ap length xs-are ∙ length-map-range_with_len f 0 n in
     record {
       long = long;
-      fit = All-from_get_or Fit xs d (λ k h.
+      fits = All-from_get_or (Fits size) xs m.none (λ k h.
           let less : k < n = omega arith in
-          subst Fit (sym (ap (λ ys. get_or ys k d) xs-are ∙ get_or-map-range_with_len f 0 n k k d less (zero-add k))) (small k less));
+          subst (Fits size) (sym (ap (λ ys. get_or ys k m.none) xs-are ∙ get_or-map-range_with_len f 0 n k k m.none less (zero-add k))) (small k less));
     }
 
-module _ {T : Type 0} (m : Ops T) (size : T → ℕ) (costs : Costs T) (c : Contents) (bs : List (ByRound T)) (ss : List T)
-    (bs-are : bs ≡ map (λ b. by_round (costs.first b) (costs.later b)) (range_with_len 0 (length c.blocks)))
+module _ {T : Type 0} (m : Ops T) (size : T → ℕ) (costs : Costs T) (c : Contents) (fs ns ss : List T)
+    (fs-are : fs ≡ map costs.first (range_with_len 0 (length c.blocks)))
+    (ns-are : ns ≡ map costs.later (range_with_len 0 (length c.blocks)))
     (ss-are : ss ≡ map costs.stay (range_with_len 0 (length (all_loops c)))) where
-  abbrev both : ℕ → ByRound T
-  both b = by_round (costs.first b) (costs.later b)
-
   -- the search takes the lists
-  pub accepted : Cheap size costs c → (s : List (Cell T)) → length s ≡ length c.blocks → Accepted size c bs ss s
+  pub accepted : Cheap size costs c → (s : List (Cell T)) → length s ≡ length c.blocks → Accepted size c fs ns ss s
   accepted cheap s cells = record {
-    blocks = cost_list (BothFit size) (none_yet m) both (length c.blocks) bs bs-are (λ k h. (cheap.first k h, cheap.later k h));
-    stays = cost_list (Fits size) m.none costs.stay (length (all_loops c)) ss ss-are cheap.stay;
+    first = cost_list m size costs.first (length c.blocks) fs fs-are cheap.first;
+    later = cost_list m size costs.later (length c.blocks) ns ns-are cheap.later;
+    stays = cost_list m size costs.stay (length (all_loops c)) ss ss-are cheap.stay;
     cells = cells;
   }
 
-  some_of : (s after : List (Cell T)) (r : Option T) → Answers m size c bs ss s after r → Accepted size c bs ss s → IsSome r
+  some_of : (s after : List (Cell T)) (r : Option T) → Answers m size c fs ns ss s after r → Accepted size c fs ns ss s → IsSome r
   some_of s after (Some t) answers ok = search rules
   some_of s after None answers ok = absurd (answers.0 ok)
 
   -- so it answers
-  module _ (s after : List (Cell T)) (r : Option T) (answers : Answers m size c bs ss s after r) where
-    pub answered : Accepted size c bs ss s → IsSome r
+  module _ (s after : List (Cell T)) (r : Option T) (answers : Answers m size c fs ns ss s after r) where
+    pub answered : Accepted size c fs ns ss s → IsSome r
     answered ok = some_of s after r answers ok
 
-    pub answer_is : (t : T) → r ≡ Some t → t ≡ figure_of m (costs_of m bs ss) c
-    answer_is t some = (subst (Answers m size c bs ss s after) some answers).1.figure
+    pub answer_is : (t : T) → r ≡ Some t → t ≡ figure_of m (costs_of m fs ns ss) c
+    answer_is t some = (subst (Answers m size c fs ns ss s after) some answers).1.figure
 
-  both_at : (b : ℕ) → b < length c.blocks → cost_at m bs b ≡ both b
-  both_at b h = ap (λ xs. get_or xs b (none_yet m)) bs-are ∙ get_or-map-range_with_len both 0 (length c.blocks) b b (none_yet m) h (zero-add b)
-
-  lists_agree : CostsAgree c (costs_of m bs ss) costs
+  lists_agree : CostsAgree c (costs_of m fs ns ss) costs
   lists_agree = record {
-    first = λ b h. ap (λ (x : ByRound T). x.first) (both_at b h);
-    later = λ b h. ap (λ (x : ByRound T). x.later) (both_at b h);
+    first = λ b h. ap (λ xs. get_or xs b m.none) fs-are ∙ get_or-map-range_with_len costs.first 0 (length c.blocks) b b m.none h (zero-add b);
+    later = λ b h. ap (λ xs. get_or xs b m.none) ns-are ∙ get_or-map-range_with_len costs.later 0 (length c.blocks) b b m.none h (zero-add b);
     stay = λ i h. ap (λ xs. get_or xs i m.none) ss-are ∙ get_or-map-range_with_len costs.stay 0 (length (all_loops c)) i i m.none h (zero-add i);
   }
 
   -- and finds the figure of the costs
-  pub figure_is : (t : T) → t ≡ figure_of m (costs_of m bs ss) c → t ≡ figure_of m costs c
-  figure_is t e = e ∙ figure_agree m c (costs_of m bs ss) costs lists_agree
+  pub figure_is : (t : T) → t ≡ figure_of m (costs_of m fs ns ss) c → t ≡ figure_of m costs c
+  figure_is t e = e ∙ figure_agree m c (costs_of m fs ns ss) costs lists_agree
+
+-- the prices of the blocks in one kind of round, by the counts of that kind
+module _ {T : Type 0} (block : Header → Block → ℕ → T) (size : T → ℕ) (c : Contents) (ps : List (ByRound ℕ)) (long : length ps ≡ length c.blocks)
+    (kind : ByRound ℕ → ℕ) (ns : List ℕ) (ns-are : ns ≡ map kind ps) where
+  abbrev no_block : Block
+  no_block = record { address = 0; fetches = 0; cycles = 0 }
+
+  abbrev price : ℕ → T
+  price b = block c.header (block_at c.blocks b) (kind (count_at ps b))
+
+  kind_at : (b : ℕ) → b < length c.blocks → get_or ns b 0 ≡ kind (count_at ps b)
+  kind_at b h = ap (λ xs. get_or xs b 0) ns-are ∙ get_or-map kind ps b (by_round 0 0) 0 (omega (arith, long))
+
+  kind_long : length ns ≡ length c.blocks
+  kind_long = ap length ns-are ∙ length-map ps kind ∙ long
+
+  pub prices_fit : ((b : ℕ) → b < length c.blocks → Fits size (price b)) → All (λ p. Fits size (block_priced block c.header p)) (zip c.blocks ns)
+  prices_fit fit = zip_each no_block 0 (λ p. Fits size (block_priced block c.header p)) c.blocks ns kind_long
+      (λ b h. subst (λ n. Fits size (block c.header (block_at c.blocks b) n)) (sym (kind_at b h)) (fit b h))
+
+  pub prices_are : map (block_priced block c.header) (zip c.blocks ns) ≡ map price (range_with_len 0 (length c.blocks))
+  prices_are =
+      zip_places no_block 0 (block_priced block c.header) c.blocks ns kind_long
+      ∙ map_same _ _ 0 (length c.blocks) (λ b _ h. ap (block c.header (block_at c.blocks b)) (kind_at b (omega arith)))
 
 -- costs that agree with small ones are small
 pub cheap_agree : {T : Type 0} (size : T → ℕ) (c : Contents) (p q : Costs T) → CostsAgree c p q → Cheap size q c → Cheap size p c

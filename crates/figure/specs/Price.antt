@@ -26,9 +26,9 @@ stay_pair h n = (n, 0)
 abbrev pub count_at : List (ByRound ℕ) → ℕ → ByRound ℕ
 count_at ps b = slice_index_or ps b (by_round 0 0)
 
--- a block with its counts, in each kind of round
-abbrev pub both_priced : {T : Type 0} → (Header → Block → ℕ → T) → Header → Block × ByRound ℕ → ByRound T
-both_priced block h p = by_round (block h p.0 p.1.first) (block h p.0 p.1.later)
+-- a block with its count in one kind of round
+abbrev pub block_priced : {T : Type 0} → (Header → Block → ℕ → T) → Header → Block × ℕ → T
+block_priced block h p = block h p.0 p.1
 
 -- The costs by two lists of counts: by block the fetches that pay in each kind of round, and by loop the lines charged.
 abbrev pub priced : {T : Type 0} → (Header → Block → ℕ → T) → (Header → ℕ → T) → Contents → List (ByRound ℕ) → List ℕ → Costs T

@@ -12,55 +12,53 @@ use Rattle.task.specs.Graph.{loop_at}
 use Rattle.task.specs.Rules.{Sound}
 use Rattle.walks.specs.Walk.{all_loops}
 use Rattle.tally.specs.Laws.{Ops, TallyLaws}
-use Rattle.longest.specs.declared.ByRound.{ByRound}
 use Rattle.longest.specs.declared.Cell.{Cell}
 use Rattle.longest.specs.Charge.{Costs, GreatestAt, Greatest}
-use Rattle.longest.specs.Search.{none_yet, cell_at, loop_done, loops_done, start_cells, table_from, table, highest, figure_of}
+use Rattle.longest.specs.Search.{cell_at, loop_done, loops_done, start_cells, table_from, table, highest, figure_of}
 use Rattle.longest.specs.Sizes.{Cheap, Ready}
 use Rattle.longest.proofs.Sizes.{ready}
 use Rattle.longest.proofs.Theorem.{table_greatest, finds}
 use Rattle.longest.proofs.Shape.{shape}
-use Rattle.search.specs.Outcome.{costs_of, Fits, BothFit, CostList, Accepted, Found}
+use Rattle.search.specs.Outcome.{costs_of, Fits, CostList, Accepted, Found}
 
-module _ {T : Type 0} (size : T → ℕ) (c : Contents) (bs : List (ByRound T)) (ss : List T) (s : List (Cell T)) where
-  pub accepts_decides : (a b : Bool) (n k : ℕ) → Decides a (CostList (BothFit size) n bs) → Decides b (CostList (Fits size) (k + 1) ss)
-      → n ≡ length c.blocks → k ≡ length c.loops → Decides ((a && b) && eqb (length s) n) (Accepted size c bs ss s)
-  accepts_decides a b n k p q n-is k-is =
+module _ {T : Type 0} (size : T → ℕ) (c : Contents) (fs ns ss : List T) (s : List (Cell T)) where
+  pub accepts_decides : (a b d : Bool) (n k : ℕ) → Decides a (CostList size n fs) → Decides b (CostList size n ns)
+      → Decides d (CostList size (k + 1) ss) → n ≡ length c.blocks → k ≡ length c.loops
+      → Decides (((a && b) && d) && eqb (length s) n) (Accepted size c fs ns ss s)
+  accepts_decides a b d n k p q r n-is k-is =
       let k_suc : k + 1 ≡ suc (length c.loops) = omega arith in (
         (λ t.
-            let all = and_parts (a && b) (eqb (length s) n) t in
-            let two = and_parts a b all.0 in
+            let all = and_parts ((a && b) && d) (eqb (length s) n) t in
+            let three = and_parts (a && b) d all.0 in
+            let two = and_parts a b three.0 in
             record {
-              blocks = subst (λ x. CostList (BothFit size) x bs) n-is (p.0 two.0);
-              stays = subst (λ x. CostList (Fits size) x ss) k_suc (q.0 two.1);
+              first = subst (λ x. CostList size x fs) n-is (p.0 two.0);
+              later = subst (λ x. CostList size x ns) n-is (q.0 two.1);
+              stays = subst (λ x. CostList size x ss) k_suc (r.0 three.1);
               cells = eqb-true (length s) n all.1 ∙ n-is;
             }),
         λ ok.
-            let one = p.1 (subst (λ x. CostList (BothFit size) x bs) (sym n-is) ok.blocks) in
-            let two = q.1 (subst (λ x. CostList (Fits size) x ss) (sym k_suc) ok.stays) in
-            and_from (a && b) (eqb (length s) n) (and_from a b one two) (eq-eqb (length s) n (ok.cells ∙ sym n-is)),
+            let one = p.1 (subst (λ x. CostList size x fs) (sym n-is) ok.first) in
+            let two = q.1 (subst (λ x. CostList size x ns) (sym n-is) ok.later) in
+            let three = r.1 (subst (λ x. CostList size x ss) (sym k_suc) ok.stays) in
+            and_from ((a && b) && d) (eqb (length s) n) (and_from (a && b) d (and_from a b one two) three)
+            (eq-eqb (length s) n (ok.cells ∙ sym n-is)),
       )
 
-module _ {T : Type 0} (m : Ops T) (size : T → ℕ) (c : Contents) (bs : List (ByRound T)) (ss : List T) (s : List (Cell T)) (lawful : TallyLaws m size)
-    (format : InFormat c) (sound : Sound c) (ok : Accepted size c bs ss s) where
+module _ {T : Type 0} (m : Ops T) (size : T → ℕ) (c : Contents) (fs ns ss : List T) (s : List (Cell T)) (lawful : TallyLaws m size)
+    (format : InFormat c) (sound : Sound c) (ok : Accepted size c fs ns ss s) where
   abbrev costs : Costs T
-  costs = costs_of m bs ss
+  costs = costs_of m fs ns ss
 
   cheap : Cheap size costs c
-  cheap =
-      let fit : (b : ℕ) → b < length c.blocks → BothFit size (get_or bs b (none_yet m)) =
-      λ b h. All-get_or (BothFit size) bs b (none_yet m) (omega (arith, ok.blocks.long)) ok.blocks.fit in
-      record {
-        first = λ b h. (fit b h).0;
-        later = λ b h. (fit b h).1;
-        stay = λ i h. All-get_or (Fits size) ss i m.none (omega (arith, ok.stays.long)) ok.stays.fit;
-      }
+  cheap = record {
+    first = λ b h. All-get_or (Fits size) fs b m.none (omega (arith, ok.first.long)) ok.first.fits;
+    later = λ b h. All-get_or (Fits size) ns b m.none (omega (arith, ok.later.long)) ok.later.fits;
+    stay = λ i h. All-get_or (Fits size) ss i m.none (omega (arith, ok.stays.long)) ok.stays.fits;
+  }
 
   loops_long : length (all_loops c) ≡ length ss
   loops_long = omega (arith, ok.stays.long)
-
-  pub start_long : length bs ≡ length s
-  start_long = ok.blocks.long ∙ sym ok.cells
 
   -- no loop is done yet
   pub table_none : (n : ℕ) (u : List (Cell T)) → n ≡ length ss → u ≡ start_cells m costs (length s) → u ≡ table_from m costs c n

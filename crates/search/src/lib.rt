@@ -6,7 +6,7 @@ ghost use Rattle.task.specs.Graph.{Within};
 ghost use Rattle.task.specs.View.{task_contents};
 ghost use Rattle.longest.specs.Search.{forward, backward, greater, plus_both, greater_both, value, arrived, round_of, turned, none_yet, before, whole, stayed, closed, loop_done, start_cells, table, highest};
 ghost use Rattle.longest.specs.Sizes.{Sorted, Low, BacksInside, BothSmall, ValuesSmall, Small, Ready};
-ghost use Rattle.search.specs.Outcome.{costs_of, Fits, BothFit, CostList, Accepted, Answers};
+ghost use Rattle.search.specs.Outcome.{costs_of, CostList, Accepted, Answers};
 
 use longest::{ByRound, Cell};
 use records::parts::*;
@@ -189,16 +189,20 @@ fn one_loop<T: Tally>(edges: &[Edge], l: Loop, stay: T, work: &mut [Cell<T>])
 }
 
 // Every block by itself, with its own costs.
-fn start<T: Tally>(costs: &[ByRound<T>], work: &mut [Cell<T>])
-    requires { length costs.now ≡ length work.old }
-    ensures { (ss : List T) → work.new ≡ start_cells T.ops (costs_of T.ops costs.now ss) (length work.old) }
+fn start<T: Tally>(first: &[T], later: &[T], work: &mut [Cell<T>])
+    requires firsts { length first.now ≡ length work.old }
+    requires laters { length later.now ≡ length work.old }
+    ensures { (ss : List T) → work.new ≡ start_cells T.ops (costs_of T.ops first.now later.now ss) (length work.old) }
 {
-    // Stored by number, since a cell holds its own number as its anchor.
-    for (b, cost) in costs.iter().enumerate() {
+    // By number, since a cell holds its own number as its anchor.
+    for b in 0..work.len() {
         work[b] = Cell {
             anchor: b,
             reach: none_yet(),
-            weight: *cost,
+            weight: ByRound {
+                first: first[b],
+                later: later[b],
+            },
         };
     }
 }
@@ -210,37 +214,31 @@ fn highest_of<T: Tally>(work: &[Cell<T>]) -> T
     work.iter().fold(T::zero(), |most, cell| greater_of(most, cell.weight.first))
 }
 
-// Whether these are the costs of n blocks, none of them too large.
-fn are_block_costs<T: Tally>(costs: &[ByRound<T>], n: usize) -> bool
-    ensures { Decides result (CostList (BothFit T.size) n costs.now) }
-{
-    costs.len() == n && costs.iter().all(|x| x.first.fits() && x.later.fits())
-}
-
-// Whether these are the costs of stays in n loops, none of them too large.
-fn are_stay_costs<T: Tally>(costs: &[T], n: usize) -> bool
-    ensures { Decides result (CostList (Fits T.size) n costs.now) }
+// Whether this is a list of n costs, none of them too large.
+fn are_costs<T: Tally>(costs: &[T], n: usize) -> bool
+    ensures { Decides result (CostList T.size n costs.now) }
 {
     costs.len() == n && costs.iter().all(|x| x.fits())
 }
 
 // Whether the lists are as long as the task asks, and no cost is too large.
-fn accepts<T: Tally>(task: &Task, costs: &[ByRound<T>], stays: &[T], work: &[Cell<T>]) -> bool
-    ensures { Decides result (Accepted T.size (task_contents task.now) costs.now stays.now work.now) }
+fn accepts<T: Tally>(task: &Task, first: &[T], later: &[T], stays: &[T], work: &[Cell<T>]) -> bool
+    ensures { Decides result (Accepted T.size (task_contents task.now) first.now later.now stays.now work.now) }
 {
     let blocks = task.record.blocks.len();
     let loops = task.record.loops.len();
     // `&` has no branch, so the proof has one path.
-    are_block_costs(costs, blocks) & are_stay_costs(stays, loops + 1) & (work.len() == blocks)
+    let costs = are_costs(first, blocks) & are_costs(later, blocks) & are_costs(stays, loops + 1);
+    costs & (work.len() == blocks)
 }
 
 // The greatest charge to each block, as its weight in a first round: by the loops from the last to
 // the first, so that inner loops come before those around them, and the task loop is the last.
-fn fill_table<T: Tally>(task: &Task, costs: &[ByRound<T>], stays: &[T], work: &mut [Cell<T>])
-    requires { Accepted T.size (task_contents task.now) costs.now stays.now work.old }
-    ensures { work.new ≡ table T.ops (costs_of T.ops costs.now stays.now) (task_contents task.now) }
+fn fill_table<T: Tally>(task: &Task, first: &[T], later: &[T], stays: &[T], work: &mut [Cell<T>])
+    requires { Accepted T.size (task_contents task.now) first.now later.now stays.now work.old }
+    ensures { work.new ≡ table T.ops (costs_of T.ops first.now later.now stays.now) (task_contents task.now) }
 {
-    start(costs, work);
+    start(first, later, work);
     // By number, since the task loop is in no list: `loop_at` finds a loop by its number.
     for number in (0..stays.len()).rev() {
         one_loop(
@@ -252,23 +250,25 @@ fn fill_table<T: Tally>(task: &Task, costs: &[ByRound<T>], stays: &[T], work: &m
     }
 }
 
-// The greatest charge of a walk within the limits. `costs` are those of each block by the round of
-// its innermost loop, `stays` those of a stay in each loop, the task loop first; `work` has a cell
-// for each block, and is left with the greatest charge to it. None if a list has another length,
-// or if a cost does not fit.
+// The greatest charge of a walk within the limits. `first` and `later` are the costs of each
+// block in the first and in a later round of its innermost loop, `stays` those of a stay in each
+// loop, the task loop first; `work` has a cell for each block, and is left with the greatest
+// charge to it. None if a list has another length, or if a cost does not fit.
 pub fn greatest_charge<T: Tally>(
     task: &Task,
-    costs: &[ByRound<T>],
+    first: &[T],
+    later: &[T],
     stays: &[T],
     work: &mut [Cell<T>],
 ) -> Option<T>
-    ensures { Answers T.ops T.size (task_contents task.now) costs.now stays.now work.old work.new result }
+    ensures { Answers T.ops T.size (task_contents task.now) first.now later.now stays.now work.old work.new result }
 {
     // The lists are lent, and no struct holds them: clauses would name each through the struct's loan
-    // as well as its own.
-    if !accepts(task, costs, stays, work) {
+    // as well as its own. The costs of blocks are two lists and not one of pairs, which could not say
+    // that one of them is shorter than the other.
+    if !accepts(task, first, later, stays, work) {
         return None;
     }
-    fill_table(task, costs, stays, work);
+    fill_table(task, first, later, stays, work);
     Some(highest_of(work))
 }

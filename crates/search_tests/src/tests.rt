@@ -1,6 +1,6 @@
 use crate::every_walk::{block_cost, greatest, stay_cost};
 use load::load;
-use longest::{ByRound, Cell};
+use longest::Cell;
 use search::greatest_charge;
 use std::alloc::AllocGlobal;
 use std::process::Abort;
@@ -13,10 +13,15 @@ fn searched(rt: &impl AllocGlobal, text: &[u8]) -> Result<u64, Fail> {
     };
     let blocks = task.record.blocks.len();
     let numbers = task.record.loops.len().saturating_add(1);
-    let costs: Vec<ByRound<u64>> = (0..blocks).map(block_cost).collect(rt.alloc())?;
+    let first: Vec<u64> = (0..blocks)
+        .map(|b| block_cost(b).first)
+        .collect(rt.alloc())?;
+    let later: Vec<u64> = (0..blocks)
+        .map(|b| block_cost(b).later)
+        .collect(rt.alloc())?;
     let stays: Vec<u64> = (0..numbers).map(stay_cost).collect(rt.alloc())?;
     let mut work = vec![in rt.alloc(); Cell::blank(); blocks]?;
-    Ok(greatest_charge(&task, &costs, &stays, &mut work).ok_or("not searched")?)
+    Ok(greatest_charge(&task, &first, &later, &stays, &mut work).ok_or("not searched")?)
 }
 
 // Every walk of the record has at most `steps` steps: one more finds nothing greater.

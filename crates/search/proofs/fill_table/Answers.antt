@@ -8,7 +8,7 @@ pub one_loop-requires : goal.one_loop-requires
 one_loop-requires g c =
     let t = g.T.Tally in
     let task = c.args.task.now in
-    loop_ready t.ops t.size (task_contents task) c.args.costs.now c.args.stays.now c.args.work.now
+    loop_ready t.ops t.size (task_contents task) c.args.first.now c.args.later.now c.args.stays.now c.args.work.now
     g.met.T.Tally.lawful task.«record».ranges task.sound c.requires
     c.loop-number.number c.loop-number-test.true c.loop-number.auto.number
     c.loop-number.work c.loop-number.invariant c.deref.result.now c.deref.ensures.value c.loop_at.result
@@ -18,7 +18,7 @@ pub loop-number-preserved : goal.loop-number-preserved
 loop-number-preserved g c =
     let t = g.T.Tally in
     let task = c.args.task.now in
-    loop_more t.ops t.size (task_contents task) c.args.costs.now c.args.stays.now c.args.work.now
+    loop_more t.ops t.size (task_contents task) c.args.first.now c.args.later.now c.args.stays.now c.args.work.now
     g.met.T.Tally.lawful task.«record».ranges task.sound c.requires
     c.loop-number.number c.loop-number-test.true c.loop-number.auto.number
     c.loop-number.work c.loop-number.invariant c.deref.result.now c.deref.ensures.value c.loop_at.result
@@ -29,6 +29,6 @@ pub returns : goal.returns
 returns g c =
     let t = g.T.Tally in
     let task = c.args.task.now in
-    table_all t.ops t.size (task_contents task) c.args.costs.now c.args.stays.now c.args.work.now
+    table_all t.ops t.size (task_contents task) c.args.first.now c.args.later.now c.args.stays.now c.args.work.now
     g.met.T.Tally.lawful task.«record».ranges task.sound c.requires
     c.loop-number.number c.loop-number.work (omega (arith, c.loop-number-test.false)) c.loop-number.invariant

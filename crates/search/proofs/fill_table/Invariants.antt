@@ -7,4 +7,4 @@ use Rattle.search.proofs.fill_table.Given as goal
 abbrev pub invariant-loop-number : goal.invariant-loop-number
 invariant-loop-number g l =
     let m = g.T.Tally.ops in
-    l.work ≡ table_from m (costs_of m l.costs l.stays) (task_contents l.task) l.number
+    l.work ≡ table_from m (costs_of m l.first l.later l.stays) (task_contents l.task) l.number

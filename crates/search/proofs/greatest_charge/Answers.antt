@@ -17,7 +17,7 @@ returns g c =
     let task = c.args.task.now in
     let ok = c.if-not-accepts.ensures.0 refl in (
       ok,
-      found t.ops t.size (task_contents task) c.args.costs.now c.args.stays.now c.args.work.now g.met.T.Tally.lawful
+      found t.ops t.size (task_contents task) c.args.first.now c.args.later.now c.args.stays.now c.args.work.now g.met.T.Tally.lawful
           task.«record».ranges task.sound ok c.fill_table.new.work c.highest_of.result c.fill_table.ensures
           c.highest_of.ensures,
     )

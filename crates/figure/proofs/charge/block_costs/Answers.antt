@@ -6,16 +6,15 @@ use Rattle.std.proofs.lemmas.Iterator.{YieldsList-from_slice, YieldsList-from_zi
 use Rattle.std.proofs.lemmas.Iterator.Adapters.{serves_from_places}
 use borrow.Author.Tests.{tests}
 use Rattle.records.specs.declared.parts.Block.{Block}
-use Rattle.longest.specs.declared.ByRound.{ByRound}
 use Rattle.task.specs.View.{task_contents}
-use Rattle.search.specs.Outcome.{BothFit}
-use Rattle.figure.specs.Price.{both_priced}
+use Rattle.search.specs.Outcome.{Fits}
+use Rattle.figure.specs.Price.{block_priced}
 use Rattle.figure.proofs.charge.block_costs.Goals as goal
 
 pub collect-requires-clause-can : goal.collect-requires-clause-can
 collect-requires-clause-can g c =
     let k = task_contents c.args.task.now in
-    let Fit : Block × ByRound ℕ → Type 0 = λ p. BothFit g.T.Tally.size (both_priced g.T.Price.of_block k.header p) in (
+    let Fit : Block × ℕ → Type 0 = λ p. Fits g.T.Tally.size (block_priced g.T.Price.of_block k.header p) in (
       (tt, tt),
       serves_from_places (YieldsList-from_zip (YieldsList-from_slice k.blocks (cc)) (YieldsList-from_slice c.args.paying.now (cc)))
           (λ x q r. search (rules, tests))
