@@ -30,9 +30,9 @@ pub(crate) fn is_alone(place: &Place, line: u32) -> bool
     ensures { result ≡ alone (task_contents place.now.task.now) place.now.range line }
 {
     let geometry = place.task.record.header.geometry;
-    let blocks = place.task.record.blocks.as_slice().iter();
+    // A slice, since `skip` goes over the blocks before the loop one by one.
+    let blocks = &place.task.record.blocks.as_slice()[place.range.header..place.range.last + 1];
     blocks
-        .take(place.range.last + 1)
-        .skip(place.range.header)
+        .iter()
         .all(|block| is_alone_in_block(block, line, geometry))
 }

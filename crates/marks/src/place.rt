@@ -1,5 +1,5 @@
 // A block of a task, at a loop around it, and the category of each of its fetches there.
-ghost use Rattle.std.specs.Prelude.{◌≡◌, ◌<◌, length};
+ghost use Rattle.std.specs.Prelude.{◌≡◌, ◌<◌, ◌≤◌, length};
 ghost use Rattle.task.specs.View.{task_contents};
 
 use crate::alone::is_alone;
@@ -16,6 +16,7 @@ pub(crate) struct Place<'a> {
     pub range: Loop,
     pub b: usize,
 
+    ghost order: { range.header ≤ range.last },
     ghost last: { range.last < length (task_contents task.now).blocks },
     ghost block: { b < length (task_contents task.now).blocks },
 }

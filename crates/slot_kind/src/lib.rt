@@ -25,13 +25,14 @@ fn line_in(lines: &[u32; 64], slot: u32) -> u32
 }
 
 // The lines after this one was fetched into a slot.
-fn store(mut lines: [u32; 64], slot: u32, line: u32) -> [u32; 64]
-    ensures { slot < 64 → result ≡ stored_line lines slot line }
+fn store(lines: &[u32; 64], slot: u32, line: u32) -> [u32; 64]
+    ensures { slot < 64 → result ≡ stored_line lines.now slot line }
 {
+    let mut stored = *lines;
     if slot < 64 {
-        lines[slot as usize] = line;
+        stored[slot as usize] = line;
     }
-    lines
+    stored
 }
 
 // What both know of each slot.
@@ -50,10 +51,11 @@ fn common(a: &[u32; 64], b: &[u32; 64]) -> [u32; 64]
 fn known_slots(lines: &[u32; 64], slots: u32) -> u32
     ensures { result ≡ known_slots lines.now slots }
 {
-    // By number, as `line_in` of the specification counts them: past the list's end a slot holds no line.
+    // By number, as `line_in` of the specification counts them: past the list's end a slot holds no line. A sum without
+    // a branch, since the rank of each state is asked for twice in every pass.
     (0..slots)
-        .filter(|slot| line_in(lines, *slot) != EMPTY)
-        .count() as u32
+        .map(|slot| u32::from(line_in(lines, slot) != EMPTY))
+        .sum()
 }
 
 impl Facts<Geometry> for SlotState {
@@ -121,7 +123,7 @@ impl CacheState for SlotState {
 
     fn fetch(&self, line: u32, geometry: Geometry) -> SlotState {
         // A match: of `map` the proof that its closure stores the line does not close.
-        match self.lines {
+        match &self.lines {
             None => *self,
             Some(lines) => {
                 let slot = slot_of(line, geometry);

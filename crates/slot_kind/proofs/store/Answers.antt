@@ -3,4 +3,4 @@ use Rattle.slot_kind.specs.Lines.{stored-set}
 use Rattle.slot_kind.proofs.store.Goals as goal
 
 pub returns-then-slot-lt64 : goal.returns-then-slot-lt64
-returns-then-slot-lt64 c l = stored-set c.args.lines c.args.slot c.args.line (omega arith)
+returns-then-slot-lt64 c l = stored-set c.args.lines.now c.args.slot c.args.line (omega arith)
