@@ -9,7 +9,6 @@ use calls::refusal::Refusal;
 use last_line_kind::LastLine;
 use records::parts::Geometry;
 use slot_kind::SlotState;
-use std::alloc::Global;
 use std::fs;
 use std::io::Write;
 
@@ -19,6 +18,9 @@ const ROOM: usize = 16384;
 // Two states for each of the most blocks that a task may have.
 const STATES: usize = 256;
 
+// The slots of the largest cache.
+const MOST_SLOTS: usize = 64;
+
 // Examines with a kind of cache state.
 fn examine<K: CacheState>(rt: &HostRuntime, bench: &mut Bench) -> anyhow::Result<()> {
     // Any geometry will do: what comes of an examination does not depend on the states that it is handed.
@@ -27,12 +29,13 @@ fn examine<K: CacheState>(rt: &HostRuntime, bench: &mut Bench) -> anyhow::Result
     print_answer(rt, bench.examine(&mut work).map(Answer::Passes))
 }
 
-// Opens a walk with as many empty slots as the task's cache has: the refusal of another length tells how many.
-fn start_empty(heap: Global, bench: &mut Bench) -> Result<(), Refusal> {
+// Opens a walk with as many empty slots as the task's cache has: the refusal of another length tells how many. The
+// slots are an array, so that memory runs out nowhere but in the bench itself.
+fn start_empty(bench: &mut Bench) -> Result<(), Refusal> {
+    let empty = [EMPTY; MOST_SLOTS];
     match bench.start(&[]) {
-        Err(Refusal::Bench(BenchFault::StartLength(slots))) => {
-            let empty = vec![in heap; EMPTY; slots]?;
-            bench.start(&empty)
+        Err(Refusal::Bench(BenchFault::StartLength(slots))) if slots <= MOST_SLOTS => {
+            bench.start(&empty[..slots])
         }
         answer => answer,
     }
@@ -69,7 +72,7 @@ pub fn obey(rt: &HostRuntime, bench: &mut Bench, command: Command) -> anyhow::Re
         Command::Start(cache) => {
             let answer = match cache {
                 Some(lines) => bench.start(&lines),
-                None => start_empty(rt.alloc(), bench),
+                None => start_empty(bench),
             };
             print_answer(rt, answer.map(|()| Answer::Started))
         }

@@ -90,23 +90,52 @@ fn compare(rt: &HostRuntime, name: &str) -> anyhow::Result<Outcome> {
     }
 }
 
+// How many records came out in which way.
+#[derive(Clone, Copy)]
+struct Counts {
+    written_back: u32,
+    examined: u32,
+    refused: u32,
+    wrong: u32,
+}
+
+impl Counts {
+    // Counts a record that came out so.
+    fn add(&mut self, outcome: Outcome) {
+        let count = match outcome {
+            Outcome::WrittenBack => &mut self.written_back,
+            Outcome::Examined => &mut self.examined,
+            Outcome::Refused => &mut self.refused,
+            Outcome::Wrong => &mut self.wrong,
+        };
+        *count = count.saturating_add(1);
+    }
+}
+
 // Compares every record of the index, and prints how many came out in which way.
 fn run(rt: &HostRuntime) -> anyhow::Result<()> {
     let index = fs::read_to_string(rt, "index")?;
-    let mut outcomes = Vec::new(rt.alloc());
+    // Counted on the way: a list of what came of each record would grow with the index.
+    let mut counts = Counts {
+        written_back: 0,
+        examined: 0,
+        refused: 0,
+        wrong: 0,
+    };
     // A loop: it prints on the way, and can fail at each name.
     for name in index.lines() {
         let outcome = compare(rt, name)?;
         if outcome == Outcome::Wrong {
             println!(rt; "wrong: {name}")?;
         }
-        outcomes.push(outcome)?;
+        counts.add(outcome);
     }
-    let count = |wanted| outcomes.iter().filter(|came| **came == wanted).count();
-    let written_back = count(Outcome::WrittenBack);
-    let examined = count(Outcome::Examined);
-    let refused = count(Outcome::Refused);
-    let wrong = count(Outcome::Wrong);
+    let Counts {
+        written_back,
+        examined,
+        refused,
+        wrong,
+    } = counts;
     println!(rt;
         "written back: {written_back}\nwritten back, and examined with both kinds: {examined}\nrefused: {refused}\nwrong: {wrong}"
     )?;
