@@ -8,7 +8,7 @@ ghost use Rattle.writer.specs.Lays.{Appends};
 #[derive(Drop)]
 pub struct Text<'a> {
     out: &'a mut [u8],
-    end: usize,
+    pub(crate) end: usize,
 }
 
 impl<'a> Text<'a> {
