@@ -22,7 +22,6 @@ use Rattle.calls.specs.declared.fault.BenchFault.{BenchFault}
 use Rattle.calls.specs.declared.fault.BenchFault.TheVariants.{WrongStage}
 use Rattle.calls.specs.declared.refusal.Refusal.{Refusal}
 use Rattle.calls.specs.declared.refusal.Refusal.TheVariants.{Bench}
-use Rattle.calls.specs.declared.stage.StageName.{StageName}
 use Rattle.calls.specs.Refusal.{no_memory}
 use Rattle.calls.specs.View.{View, unused, loaded, examined, walking}
 use Rattle.calls.specs.Held.{Along}
@@ -104,7 +103,7 @@ module _ {A : Type 0} (r : Result A Refusal) (next : Plain → Plain → Type 0)
   lacks v e same tied = subst (λ (y : Result A Refusal). Led w (Fed y next p)) (sym e) (stays v w p same tied)
 
 -- a call that is not of the stage leaves both as they are
-pub wrong_stage : {A : Type 0} (r : Result A Refusal) (next : Plain → Plain → Type 0) {v w : View} {p : Plain} {n : StageName} → Tied v p
+pub wrong_stage : {A : Type 0} (r : Result A Refusal) (next : Plain → Plain → Type 0) {v w : View} {p : Plain} {n : ℕ} → Tied v p
     → r ≡ Err (Bench (WrongStage n)) → w ≡ v → next p p → ((q : Plain) → next p q → q ≡ p) → Led w (Fed r next p)
 wrong_stage r next {v} {w} {p} {n} tied wrong same stay only =
     refuses r next w p (WrongStage n) wrong (record { plain = p; fed = stay; only = only; tied = retied v w p same tied })

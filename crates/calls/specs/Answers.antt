@@ -12,12 +12,13 @@ use Rattle.calls.specs.declared.fault.Part.TheVariants.{Block, Fetch, Level}
 use Rattle.calls.specs.declared.fault.BenchFault.TheVariants.{WrongStage, NoSuch}
 use Rattle.calls.specs.declared.refusal.Refusal.{Refusal}
 use Rattle.calls.specs.declared.refusal.Refusal.TheVariants.{Bench}
+use Rattle.calls.specs.Fault.{stage_number}
 use Rattle.calls.specs.Standing.{standing}
 use Rattle.calls.specs.View.{View, stage_of, taken, task_of, found_of, walk_of}
 
 -- a call that is not of the stage is refused before all else
 abbrev pub admitted : {A : Type 0} → Call → View → Result A Refusal → Result A Refusal
-admitted call v answer = elim (taken call (stage_of v)) [ true ↦ answer | false ↦ Err (Bench (WrongStage (stage_of v))) ]
+admitted call v answer = elim (taken call (stage_of v)) [ true ↦ answer | false ↦ Err (Bench (WrongStage (stage_number (stage_of v)))) ]
 
 -- the worst case in cycles, and the greatest pair
 abbrev pub figure_answer : View → Result Figures Refusal

@@ -9,7 +9,7 @@ use Rattle.calls.specs.declared.fault.BenchFault.{BenchFault}
 use Rattle.calls.specs.declared.fault.BenchFault.TheVariants.{WrongStage, StartLength, Step, NoSuch, TooShort}
 
 abbrev pub number : BenchFault → ℕ
-number (WrongStage s) = 15
+number (WrongStage n) = 15
 number (StartLength n) = 16
 number (Step (NoEdge n)) = 17
 number (Step (LimitSpent n)) = 18
@@ -28,7 +28,7 @@ part_number Fetch = 1
 part_number Level = 2
 
 abbrev pub place : BenchFault → ℕ
-place (WrongStage s) = stage_number s
+place (WrongStage n) = n
 place (StartLength n) = n
 place (Step (NoEdge n)) = n
 place (Step (LimitSpent n)) = n

@@ -21,13 +21,14 @@ use Rattle.calls.specs.declared.fault.Part.TheVariants.{Block}
 use Rattle.calls.specs.declared.fault.BenchFault.TheVariants.{WrongStage, StartLength, Step as Stuck, NoSuch, TooShort}
 use Rattle.calls.specs.declared.refusal.Refusal.{Refusal}
 use Rattle.calls.specs.declared.refusal.Refusal.TheVariants.{Record, Bench}
+use Rattle.calls.specs.Fault.{stage_number}
 use Rattle.calls.specs.Refusal.{no_memory}
 use Rattle.calls.specs.View.{View, loaded, examined, walking, stage_of, taken, task_of, found_of, walk_of}
 
 -- A call that is not of the stage is refused before all else, and changes nothing; else it has its own outcome.
 abbrev pub Admitted : {A : Type 0} → Call → View → Result A Refusal → Type 0 → Type 0 → Type 0
 Admitted call v r same own =
-    elim (taken call (stage_of v)) [ true ↦ own | false ↦ (r ≡ Err (Bench (WrongStage (stage_of v)))) × same ]
+    elim (taken call (stage_of v)) [ true ↦ own | false ↦ (r ≡ Err (Bench (WrongStage (stage_number (stage_of v))))) × same ]
 
 -- the text is that of a sound record with these contents
 pub record Reads (t : List ℕ) (c : Contents) : Type 0 where

@@ -2,7 +2,6 @@
 ghost use Rattle.std.specs.Prelude.{◌≡◌};
 ghost use Rattle.calls.specs.Fault.{number, part_number, place};
 
-use crate::stage::StageName;
 use run::StepFault;
 
 // A part of a task that a question names.
@@ -25,8 +24,8 @@ impl Part {
 // The rules that a call is held to, in this order.
 #[derive(Clone, Copy)]
 pub enum BenchFault {
-    // The call is not of the bench's stage, which is named.
-    WrongStage(StageName),
+    // The call is not of the bench's stage, whose number this is.
+    WrongStage(usize),
     // The starting list is not as long as the cache has slots.
     StartLength(usize),
     // The walk cannot go on to the block asked for.
@@ -59,7 +58,7 @@ impl BenchFault {
         ensures { result ≡ place self.now }
     {
         match *self {
-            BenchFault::WrongStage(stage) => stage.number(),
+            BenchFault::WrongStage(stage) => stage,
             BenchFault::StartLength(length) | BenchFault::TooShort(length) => length,
             BenchFault::Step(StepFault::NoEdge(block) | StepFault::LimitSpent(block)) => block,
             BenchFault::NoSuch(part) => part.number(),

@@ -110,7 +110,7 @@ impl Bench {
                 | Call::List
                 | Call::Stand,
             ) => Ok(()),
-            (stage, _) => Err(Refusal::Bench(BenchFault::WrongStage(stage.name()))),
+            (stage, _) => Err(Refusal::Bench(BenchFault::WrongStage(stage.name().number()))),
         }
     }
 }
