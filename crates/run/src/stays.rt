@@ -63,7 +63,7 @@ pub(crate) fn enter_rounds(task: &Task, b: usize, rounds: &mut [u32])
     ensures { length rounds.old ≡ length (all_loops (task_contents task.now)) → (SpentOf (all_loops (task_contents task.now)) rounds.old b → ⊥) → rounds.new ≡ entered_rounds (all_loops (task_contents task.now)) b rounds.old }
 {
     // By index: the number picks the loop too, and what `iter_mut` under `enumerate` writes is not known to a proof. Rounds
-    // past those of the task's loops are none of it, and stay.
+    // past those of the task's loops belong to none of them, and stay.
     for i in 0..rounds.len().min(task.record.loops.len() + 1) {
         rounds[i] = next_rounds(loop_at(task, i), b, rounds[i]);
     }

@@ -52,7 +52,7 @@ fn known_slots(lines: &[u32; 64], slots: u32) -> u32
     ensures { result ≡ known_slots lines.now slots }
 {
     // By number, as `line_in` of the specification counts them: past the list's end a slot holds no line. A sum without
-    // a branch, since the rank of each state is asked for twice in every pass.
+    // a branch, since each turn of a block in settling asks twice for a rank.
     (0..slots)
         .map(|slot| u32::from(line_in(lines, slot) != EMPTY))
         .sum()

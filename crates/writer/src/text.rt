@@ -8,6 +8,7 @@ ghost use Rattle.writer.specs.Lays.{Appends};
 #[derive(Drop)]
 pub struct Text<'a> {
     out: &'a mut [u8],
+    // Open to the crate, so that the must-fail edit of `lay_list` can lay each entry over the heading.
     pub(crate) end: usize,
 }
 
