@@ -24,15 +24,13 @@ fn line_in(lines: &[u32; 64], slot: u32) -> u32
     lines.get(slot as usize).copied().unwrap_or(EMPTY)
 }
 
-// The lines after this one was fetched into a slot.
-fn store(lines: &[u32; 64], slot: u32, line: u32) -> [u32; 64]
-    ensures { slot < 64 → result ≡ stored_line lines.now slot line }
+// Fetches this line into a slot.
+fn store(lines: &mut [u32; 64], slot: u32, line: u32)
+    ensures { slot < 64 → lines.new ≡ stored_line lines.old slot line }
 {
-    let mut stored = *lines;
     if slot < 64 {
-        stored[slot as usize] = line;
+        lines[slot as usize] = line;
     }
-    stored
 }
 
 // What both know of each slot.
@@ -122,15 +120,12 @@ impl CacheState for SlotState {
     ghost spreading = { λ g t e. (fetch_through g (slots_few g e).0 t).distributes };
 
     fn fetch(&self, line: u32, geometry: Geometry) -> SlotState {
-        // A match: of `map` the proof that its closure stores the line does not close.
-        match &self.lines {
-            None => *self,
-            Some(lines) => {
-                let slot = slot_of(line, geometry);
-                SlotState {
-                    lines: Some(store(lines, slot, line)),
-                }
-            }
+        // One copy of the slots, and the line stored in it: states are copied wherever they are handed on.
+        let mut state = *self;
+        if let Some(lines) = &mut state.lines {
+            let slot = slot_of(line, geometry);
+            store(lines, slot, line);
         }
+        state
     }
 }
